@@ -1,0 +1,13 @@
+-- Any two results that a public function's contract allows for one input are equal. `Post` is the contract's own text, as
+-- the check reads it: the arguments, the result, and the parameters at exit.
+-- Assumes nothing.
+use mathlib.Core.Path.{_≡_, sym, _∙_}
+use denote.Ref.{now}
+use Rattle.bits.proofs.read_field.Reads as read-field
+use Rattle.bits.proofs.replace_field.Reads as replace-field
+
+pub read-field-determined : (κs a r r′ s s′ : _) → read-field.Post κs a r s → read-field.Post κs a r′ s′ → r ≡ r′
+read-field-determined κs a r r′ s s′ p q = p ∙ sym q
+
+pub replace-field-determined : (κs a r r′ s s′ : _) → replace-field.Post κs a r s → replace-field.Post κs a r′ s′ → now (s .0) ≡ now (s′ .0)
+replace-field-determined κs a r r′ s s′ p q = p ∙ sym q

@@ -1,0 +1,7 @@
+pub mod Numbers
+pub mod Bytes
+pub mod Groups
+pub mod Fields
+pub mod Xor
+pub mod Determined
+mod Places

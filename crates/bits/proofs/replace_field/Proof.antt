@@ -1,0 +1,67 @@
+-- `bits::replace_field` meets its contract: the field is replaced in the bytes it touches, and the others stay.
+-- Assumes nothing.
+use mathlib.Core.Path.{_≡_, sym, _∙_, ap}
+use mathlib.Core.List.{List, _++_}
+use Prim.Native.Nat.{ℕ, _-_}
+use lib.ListN.{length, take, drop}
+use denote.Ref.{now}
+use Rattle.bits.specs.Located.{Touches}
+use Rattle.bits.proofs.Places.{is-field, asked, replaced-touched}
+use borrow.Author.Needs.{needs}
+use Rattle.bits.proofs.replace_field.Statement.{statement}
+use Rattle.bits.proofs.replace_field.Tie as tie
+use Rattle.bits.proofs.replace_field.Reads as reads
+use Rattle.bits.proofs.replace_field.Lts as lts
+use Rattle.bits.proofs.locate.Reads as locate-reads
+use Rattle.bits.proofs.put.Reads as put-reads
+
+locate-requires : tie.Need-locate-requires
+locate-requires c κs = search needs
+
+touches : (c : tie.Then1) → Touches (length (now (c .before .before .before .args .bytes))) (c .before .before .before .args .at) (c .before .before .before .args .width) (c .before .locate .result)
+touches c = c .before .locate .ensures .lies (c .if1 .taken)
+
+sub-put : tie.Need-sub-put
+sub-put c = touches c .ordered
+
+part-put-start : tie.Need-part-put-start
+part-put-start c = touches c .ordered
+
+part-put-end : tie.Need-part-put-end
+part-put-end c = touches c .within
+
+put-requires : tie.Need-put-requires
+put-requires c κs =
+    let a = c .before .before .before .before .args in
+    asked (a .at) (a .width) (now (a .bytes)) (c .before .before .locate .result) (touches (c .before))
+
+same-length : tie.Need-same-length
+same-length c = search needs
+
+returns : tie.Need-returns
+returns c =
+    let a = c .before .before .before .before .before .before .before .args in
+    let l = c .before .before .before .before .before .locate in
+    let inside = sym (is-field (a .at) (a .width) (now (a .bytes)) (l .result) (l .ensures)) ∙ c .before .before .before .before .if1 .taken in
+    ap (λ (ys : List ℕ). take (l .result .first) (now (a .bytes)) ++ (ys ++ drop (l .result .end - l .result .first) (drop (l .result .first) (now (a .bytes))))) (c .before .before .put .ensures)
+    ∙ replaced-touched (a .at) (a .width) (now (a .bytes)) (l .result) (touches (c .before .before .before .before)) (λ i. c .before .before .before .before .before .before .slice-known .given i .fits) (a .value)
+    ∙ rw inside
+
+returns-2 : tie.Need-returns-2
+returns-2 c =
+    let a = c .before .before .before .args in
+    let l = c .before .locate in
+    rw (sym (is-field (a .at) (a .width) (now (a .bytes)) (l .result) (l .ensures)) ∙ c .if1 .left)
+
+pub replace-field-spec : {M : Type 1} → statement M
+replace-field-spec =
+    tie.close
+    (tie.spec
+    locate-requires
+    sub-put
+    part-put-start
+    part-put-end
+    put-requires
+    same-length
+    returns
+    returns-2)

@@ -1,0 +1,12 @@
+-- Any two results that a public function's contract allows for one input are equal. `Post` is the contract's own text, as
+-- the check reads it: the arguments, the result, and the parameters at exit.
+-- Assumes nothing.
+use mathlib.Core.Path.{_≡_, sym, _∙_}
+use Rattle.checksum.proofs.of.Reads as of
+use Rattle.checksum.proofs.step.Reads as step
+
+pub of-determined : (κs a r r′ s s′ : _) → of.Post κs a r s → of.Post κs a r′ s′ → r ≡ r′
+of-determined κs a r r′ s s′ p q = p ∙ sym q
+
+pub step-determined : (κs a r r′ s s′ : _) → step.Post κs a r s → step.Post κs a r′ s′ → r ≡ r′
+step-determined κs a r r′ s s′ p q = p ∙ sym q

@@ -1,0 +1,4 @@
+pub mod Division
+pub mod Worked
+pub mod Determined
+mod Register

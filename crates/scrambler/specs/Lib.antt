@@ -1,0 +1,3 @@
+pub mod Scrambler
+pub mod Walk
+pub mod Worked

@@ -1,0 +1,49 @@
+// The scrambler, x^17 + x^12 + 1 for the satellites, and its inverse (01, "Scrambler"; FORMAT 5).
+//
+// Both directions are one walk over the bits. They differ in one thing: which of the bit that goes in and the bit that
+// comes out is on air, and so remembered.
+mod walk;
+
+ghost use mathlib.Core.Path.{_≡_};
+ghost use Rattle.scrambler.specs.Scrambler.{restarted, partAnswer, registerAnswer};
+ghost use Rattle.scrambler.specs.declared.Direction.the-variants.{Scramble, Unscramble};
+
+pub enum Direction {
+    Scramble,
+    Unscramble,
+}
+
+// Two distances, and the `far` latest sent bits as a number, the earliest the highest. It goes in by value and comes
+// back as it stands behind the part, so a body can be worked on in several parts.
+pub struct Register {
+    pub near: u32,
+    pub far: u32,
+    pub sent: u32,
+}
+
+impl Register {
+    // What the body of each frame starts with.
+    pub fn restarted() -> Register
+        ensures { λ r. ⌜ r ≡ restarted ⌝ }
+    {
+        Register {
+            near: 12,
+            far: 17,
+            sent: 0x10000,
+        }
+    }
+
+    // Scrambles the part in place. Distances that are not allowed leave the part and the register as they are.
+    pub fn scramble(self, part: &mut [u8]) -> Register
+        ensures { λ r. ⌜ (r ≡ registerAnswer Scramble self (now (part .entry))) × (now (part .exit) ≡ partAnswer Scramble self (now (part .entry))) ⌝ }
+    {
+        walk::pass(self, Direction::Scramble, part)
+    }
+
+    // The inverse, in the same way.
+    pub fn unscramble(self, part: &mut [u8]) -> Register
+        ensures { λ r. ⌜ (r ≡ registerAnswer Unscramble self (now (part .entry))) × (now (part .exit) ≡ partAnswer Unscramble self (now (part .entry))) ⌝ }
+    {
+        walk::pass(self, Direction::Unscramble, part)
+    }
+}

@@ -1,0 +1,91 @@
+// The walk over a part: bytes, and in each byte its bits, most significant first.
+use crate::Direction;
+use crate::Register;
+ghost use mathlib.Core.Path.{_≡_};
+ghost use mathlib.Core.Bool.{Bool};
+ghost use mathlib.Core.List.{List};
+ghost use Prim.Native.Nat.{ℕ, _+_, _/_, _%_, _^_, _-_, _≤_, _<_};
+ghost use Rattle.bits.specs.Bits.{odd, _⊕_};
+ghost use Rattle.scrambler.specs.Scrambler.{onAir, partAnswer, registerAnswer};
+ghost use Rattle.scrambler.specs.Walk.{Taps, PassesByte};
+
+pub fn pass(register: Register, way: Direction, part: &mut [u8]) -> Register
+    ensures { λ r. ⌜ (r ≡ registerAnswer way register (now (part .entry))) × (now (part .exit) ≡ partAnswer way register (now (part .entry))) ⌝ }
+{
+    let near = register.near;
+    let far = register.far;
+    if near < 1 {
+        return register;
+    }
+    if far <= near {
+        return register;
+    }
+    if 32 < far {
+        return register;
+    }
+    let mut sent = register.sent;
+    let mut i = 0;
+    while i < part.len() {
+        let p = pass_byte(way, near, far, sent, part[i]);
+        part[i] = p.byte;
+        sent = p.sent;
+        i += 1;
+    }
+    Register {
+        near,
+        far,
+        sent: lowest(far, sent),
+    }
+}
+
+// What a byte leaves: the sent bits, the latest the lowest, and the byte that comes out.
+struct Passed {
+    sent: u32,
+    byte: u8,
+}
+
+fn pass_byte(way: Direction, near: u32, far: u32, sent: u32, byte: u8) -> Passed
+    requires { ⌜ Taps near far ⌝ }
+    ensures { λ r. ⌜ PassesByte way near far sent byte (r .sent) (r .byte) ⌝ }
+{
+    let mut held = sent;
+    let mut out: u8 = 0;
+    let mut left: u32 = 8;
+    while 0 < left {
+        left -= 1;
+        let bit = (byte as u32 >> left) % 2;
+        let crossed = step(near, far, held, bit);
+        held = held % 0x8000_0000 * 2 + on_air(way, bit, crossed);
+        out = out * 2 + crossed as u8;
+    }
+    Passed {
+        sent: held,
+        byte: out,
+    }
+}
+
+// One bit: xor the sent bits `near` and `far` places earlier.
+fn step(near: u32, far: u32, sent: u32, bit: u32) -> u32
+    requires { ⌜ Taps near far × (bit < 2) ⌝ }
+    ensures { λ r. ⌜ (r < 2) × (odd r ≡ odd bit ⊕ odd (sent / 2 ^ (near - 1)) ⊕ odd (sent / 2 ^ (far - 1))) ⌝ }
+{
+    (bit + (sent >> (near - 1)) % 2 + (sent >> (far - 1)) % 2) % 2
+}
+
+// Which of the two is on air.
+fn on_air(way: Direction, into: u32, out: u32) -> u32
+    ensures { λ r. ⌜ r ≡ onAir way into out ⌝ }
+{
+    match way {
+        Direction::Scramble => out,
+        Direction::Unscramble => into,
+    }
+}
+
+// The lowest `far` bits.
+fn lowest(far: u32, sent: u32) -> u32
+    requires { ⌜ far ≤ 32 ⌝ }
+    ensures { λ r. ⌜ r ≡ sent % 2 ^ far ⌝ }
+{
+    (sent as u64 % (1u64 << far)) as u32
+}
