@@ -1,12 +1,12 @@
 -- Bytes and their bits: `bitsOf` and `packed` are inverse, and a cut between bytes is a cut at a multiple of 8 bits.
 -- Assumes nothing.
-use mathlib.Core.Path.{_≡_, refl, sym, ap, ap₂, _∙_}
+use mathlib.Core.Path.{_≡_, refl, ap, ap₂, _∙_}
 use mathlib.Core.Bool.{Bool}
 use mathlib.Core.List.{List, [], _∷_, _++_, append-assoc}
-use Prim.Native.Nat.{ℕ, zero, suc, _+_, _*_, _-_, _^_, _≤_, _<_, min}
-use native.Mathlib.Nat.{mod-eq-of-lt, suc-add, zero-add, le-trans, min-eq-left, min-le-left}
+use Prim.Native.Nat.{ℕ, zero, suc, _+_, _*_}
+use native.Mathlib.Nat.{mod-eq-of-lt, suc-add, zero-add, le-trans, min-le-left}
 use native.Mathlib.Omega.{arith}
-use lib.ListN.{length, getD, take, drop, length-append, length-take, length-drop, take-append-drop}
+use lib.ListN.{length, take, drop, length-append, length-take, length-drop, take-append-drop}
 use lib.Seq.{take-nil, drop-nil, take-at, drop-at, take-append-add, drop-append-add, take-append-le, drop-append-le}
 use lib.Pow.{pow-mono}
 use Rattle.bits.specs.Bits.{bits, number, bitsOf, packed, Bytes}

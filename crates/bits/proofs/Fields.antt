@@ -4,10 +4,10 @@
 use mathlib.Core.Path.{_≡_, refl, sym, ap, ap₂, _∙_}
 use mathlib.Core.Bool.{Bool}
 use mathlib.Core.List.{List, [], _∷_, _++_, append-assoc}
-use Prim.Native.Nat.{ℕ, zero, suc, _+_, _*_, _-_, _^_, _%_, _≤_, _<_, suc-le-suc}
+use Prim.Native.Nat.{ℕ, zero, suc, _+_, _*_, _^_, _%_, _≤_}
 use native.Mathlib.Nat.{add-assoc}
 use native.Mathlib.Omega.{arith}
-use lib.ListN.{length, getD, take, drop, length-append, length-take, length-drop, take-append-drop}
+use lib.ListN.{length, take, drop, length-append, length-take, length-drop, take-append-drop}
 use lib.Seq.{take-at, drop-at, take-append-add, drop-append-add, take-append-le, drop-append-le, take-take, drop-drop}
 use Rattle.bits.specs.Bits.{bits, number, bitsOf, packed, field, replaced, Bytes}
 use Rattle.bits.proofs.Numbers.{length-bits, number-bits, bits-of}
@@ -28,7 +28,15 @@ module _ (at w v : ℕ) (s : List ℕ) (h : at + w ≤ 8 * length s) where
   unfolding replaced
   bits-replaced =
       bitsOf-packed (length s) (take at (bitsOf s) ++ (bits w v ++ drop (at + w) (bitsOf s)))
-      (rw (length-append (take at (bitsOf s)) (bits w v ++ drop (at + w) (bitsOf s)), ahead, length-append (bits w v) (drop (at + w) (bitsOf s)), length-bits w v, length-drop, length-bitsOf) (omega arith))
+      (rw (
+        length-append (take at (bitsOf s)) (bits w v ++ drop (at + w) (bitsOf s)),
+        ahead,
+        length-append (bits w v) (drop (at + w) (bitsOf s)),
+        length-bits w v,
+        length-drop,
+        length-bitsOf,
+      )
+      (omega arith))
 
   -- the bits ahead of the field and behind it stay
   pub replaced-ahead : take at (bitsOf (replaced at w v s)) ≡ take at (bitsOf s)
@@ -135,7 +143,15 @@ module _ (q t r w : ℕ) (s : List ℕ) (inner : r + w ≤ 8 * t) where
 
     changed-length : (v : ℕ) → length (changed v) ≡ 8 * t
     changed-length v =
-        rw (length-append (take r (bitsOf touched)) (bits w v ++ drop (r + w) (bitsOf touched)), length-append (bits w v) (drop (r + w) (bitsOf touched)), length-bits w v, length-take, length-drop, touched-bits) (omega arith)
+        rw (
+          length-append (take r (bitsOf touched)) (bits w v ++ drop (r + w) (bitsOf touched)),
+          length-append (bits w v) (drop (r + w) (bitsOf touched)),
+          length-bits w v,
+          length-take,
+          length-drop,
+          touched-bits,
+        )
+        (omega arith)
 
     pub replaced-part : (v : ℕ) → replaced (8 * q + r) w v s ≡ before ++ (replaced r w v touched ++ after)
     unfolding replaced

@@ -1,11 +1,11 @@
 -- A few bytes as one number, and the field that is cut out of it or put into it: the arithmetic of `gather`, `spread`,
 -- `cut` and `put`, over bits alone.
 -- Assumes nothing.
-use mathlib.Core.Path.{_≡_, refl, sym, ap, ap₂, _∙_, subst}
+use mathlib.Core.Path.{_≡_, sym, ap, ap₂, _∙_}
 use mathlib.Core.Bool.{Bool}
-use mathlib.Core.List.{List, [], _∷_, _++_, append-nil, append-assoc}
+use mathlib.Core.List.{List, [], _∷_, _++_, append-nil}
 use Prim.Native.Nat.{ℕ, zero, suc, _+_, _*_, _-_, _/_, _%_, _^_, _≤_, _<_}
-use native.Mathlib.Nat.{mod-eq-of-lt, le-trans, le-refl, add-comm, lt-of-lt-of-le}
+use native.Mathlib.Nat.{mod-eq-of-lt, le-trans, le-refl}
 use native.Mathlib.Numerals.{add-one, sub-one}
 use native.Mathlib.Omega.{arith}
 use lib.ListN.{length, getD, take, drop, set, length-append, length-take, length-drop, take-append-drop}
@@ -43,7 +43,14 @@ pub spread-next : (i v : ℕ) (xs : List ℕ) → 0 < i → i ≤ length xs
     → inBytes (i - 1) (v / 256) ++ drop (i - 1) (set xs (i - 1) (v % 256)) ≡ inBytes i v ++ drop i xs
 spread-next zero v xs p h = absurd (omega arith)
 spread-next (suc k) v xs p h =
-    rw (sub-one (suc k), drop-cons (set xs k (v % 256)) k 0 (lt-length-set xs k (v % 256) h), getD-set-same xs k (v % 256) 0 h, drop-set-lt (suc k) xs k (v % 256) (le-refl (suc k)), inBytes-next k v)
+    let b = v % 256 in
+    rw (
+      sub-one (suc k),
+      drop-cons (set xs k b) k 0 (lt-length-set xs k b h),
+      getD-set-same xs k b 0 h,
+      drop-set-lt (suc k) xs k b (le-refl (suc k)),
+      inBytes-next k v,
+    )
     (sym (append-snoc (inBytes k (v / 256)) (v % 256) (drop (suc k) xs)))
 
 -- bits fall into those ahead of a field, the field, and those behind it
@@ -90,7 +97,14 @@ module _ (bs : List Bool) (r w k : ℕ) (h : length bs ≡ r + (w + k)) where
 
   pub length-changed : (v : ℕ) → length (changed v) ≡ length bs
   length-changed v =
-      rw (length-append (take r bs) (bits w v ++ drop (r + w) bs), length-append (bits w v) (drop (r + w) bs), length-bits w v, length-take, length-drop) (omega arith)
+      rw (
+        length-append (take r bs) (bits w v ++ drop (r + w) bs),
+        length-append (bits w v) (drop (r + w) bs),
+        length-bits w v,
+        length-take,
+        length-drop,
+      )
+      (omega arith)
 
   pub number-changed : (v : ℕ) → (number bs / 2 ^ k / 2 ^ w * 2 ^ w + v % 2 ^ w) * 2 ^ k + number bs % 2 ^ k ≡ number (changed v)
   number-changed v =

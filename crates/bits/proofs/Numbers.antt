@@ -3,7 +3,7 @@
 use mathlib.Core.Path.{_≡_, refl, sym, ap, ap₂, _∙_, subst}
 use mathlib.Core.Bool.{Bool, true, false, cond}
 use mathlib.Core.List.{List, [], _∷_, _++_}
-use Prim.Native.Nat.{ℕ, zero, suc, _+_, _-_, _*_, _/_, _%_, _^_, _≤_, _<_}
+use Prim.Native.Nat.{ℕ, zero, suc, _+_, _-_, _*_, _/_, _%_, _^_, _<_}
 use native.Mathlib.Nat.{mod-one, mod-mod, mod-lt, mod-eq-of-lt, add-mod, mul-add-mod-self-right, div-one, one-mul, pow-suc, zero-lt-suc, zero-add, suc-add, add-comm, not-suc-le-zero, le-of-suc-le-suc}
 use native.Mathlib.Numerals.{one-add, add-one}
 use native.Mathlib.Omega.{arith}
@@ -70,7 +70,9 @@ bits-number [] = refl
 bits-number (b ∷ bs) =
     ap₂ _∷_
     (ap odd (high (cond b 1 0) (length bs) (number-lt bs)) ∙ odd-digit b)
-    (sym (bits-mod (length bs) (cond b 1 0 * 2 ^ length bs + number bs)) ∙ ap (bits (length bs)) (low (cond b 1 0) (length bs) (number-lt bs)) ∙ bits-number bs)
+    (sym (bits-mod (length bs) (cond b 1 0 * 2 ^ length bs + number bs))
+    ∙ ap (bits (length bs)) (low (cond b 1 0) (length bs) (number-lt bs))
+    ∙ bits-number bs)
 
 -- the same, where the list's length is known by another name
 pub bits-of : (n : ℕ) (bs : List Bool) → length bs ≡ n → bits n (number bs) ≡ bs

@@ -50,15 +50,15 @@ fn locate(len: usize, at: usize, width: usize) -> Place
     ensures { λ r. ⌜ Located len at width r ⌝ }
 {
     let first = at / 8;
-    let lead = at % 8;
     if width <= 32 {
-        let touched = (lead + width + 7) / 8;
+        let until = at % 8 + width;
+        let touched = (until + 7) / 8;
         let end = first + touched;
         Place {
             inside: end <= len,
             first,
             end,
-            rest: 8 * touched - lead - width,
+            rest: 8 * touched - until,
         }
     } else {
         Place {
@@ -98,7 +98,7 @@ fn put(group: &mut [u8], width: usize, rest: usize, value: u32)
 // So many numbers can `k` bits stand for.
 fn power(k: usize) -> u64
     requires { ⌜ k < 64 ⌝ }
-    ensures { λ r. ⌜ r ≡ 2 ^ k ⌝ }
+    ensures { λ r. ⌜ (r ≡ 2 ^ k) × (0 < r) ⌝ }
 {
     1 << k
 }

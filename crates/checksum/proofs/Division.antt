@@ -4,7 +4,7 @@
 use mathlib.Core.Path.{_≡_, refl, sym, ap, ap₂, _∙_}
 use mathlib.Core.Bool.{Bool, true, false, cond}
 use mathlib.Core.List.{List, [], _∷_, _++_}
-use Prim.Native.Nat.{ℕ, zero, suc, _+_, _≤_}
+use Prim.Native.Nat.{ℕ, _≤_}
 use native.Mathlib.Nat.{suc-inj, le-of-eq}
 use native.Mathlib.Omega.{arith}
 use lib.ListN.{length, replicate, length-append}
@@ -92,7 +92,8 @@ folded r [] hr h = sym (⊞-nil r)
 folded [] (d ∷ ds) hr h = absurd (omega arith)
 folded (b ∷ bs) (d ∷ ds) hr h =
     folded (divided (b ∷ bs) d) ds (length-divided (b ∷ bs) d hr) (omega arith)
-    ∙ ap (λ (l : List Bool). after l (replicate (length ds) false)) (met ∙ ap₂ _⊞_ (⊞-front bs (false ∷ []) ds (omega arith)) (ap taken (sym (⊕-false (b ⊕ d)))))
+    ∙ ap (λ (l : List Bool). after l (replicate (length ds) false))
+    (met ∙ ap₂ _⊞_ (⊞-front bs (false ∷ []) ds (omega arith)) (ap taken (sym (⊕-false (b ⊕ d)))))
   where
     moved : List Bool
     moved = bs ++ (false ∷ [])

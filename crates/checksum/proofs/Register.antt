@@ -3,17 +3,17 @@
 use mathlib.Core.Path.{_≡_, refl, sym, ap, ap₂, _∙_}
 use mathlib.Core.Bool.{Bool, true, false, cond}
 use mathlib.Core.List.{List, [], _∷_, _++_}
-use Prim.Native.Nat.{ℕ, zero, suc, _+_, _-_, _*_, _/_, _%_, _^_, _≤_, _<_}
+use Prim.Native.Nat.{ℕ, zero, suc, _+_, _-_, _*_, _/_, _%_, _^_, _<_}
 use native.Mathlib.Nat.{mul-div-cancel, mul-mod-left, div-one, mod-eq-of-lt, zero-lt-suc}
 use native.Mathlib.Numerals.{sub-one, add-one}
 use native.Mathlib.Omega.{arith}
-use lib.Bits.{bitXor, xor-zero-r, xor-lt}
+use lib.Bits.{bitXor, xor-lt}
 use lib.ListN.{length, getD, drop, replicate}
 use lib.Seq.{drop-cons}
-use Rattle.bits.specs.Bits.{_⊕_, _⊞_, odd, bits, number, bitsOf}
+use Rattle.bits.specs.Bits.{_⊞_, odd, bits, number, bitsOf}
 use Rattle.bits.proofs.Numbers.{length-bits, number-bits, number-lt, bits-mod, bits-of, bits-append}
 use Rattle.bits.proofs.Xor.{⊕-false, ⊞-zeros, bits-xor}
-use Rattle.checksum.specs.Checksum.{polynomial, start, divided, after, stepped, checksum}
+use Rattle.checksum.specs.Checksum.{polynomial, divided, after, stepped}
 use Rattle.checksum.proofs.Division.{length-divided, length-after, after-append, folded}
 
 even : (m : ℕ) → odd (m * 2 / 1) ≡ false
@@ -93,5 +93,6 @@ pub byte-next : (r i : ℕ) (s : List ℕ) → i < length s
     → number (after (bits 16 (stepped r (getD s i 0))) (bitsOf (drop (i + 1) s))) ≡ number (after (bits 16 r) (bitsOf (drop i s)))
 unfolding bitsOf
 byte-next r i s h =
-    rw (register-bits (after (bits 16 r) (bits 8 (getD s i 0))) (length-after (bits 16 r) (bits 8 (getD s i 0)) (length-bits 16 r)), add-one i, drop-cons s i 0 h)
-    (ap number (sym (after-append (bits 16 r) (bits 8 (getD s i 0)) (bitsOf (drop (suc i) s)))))
+    let b = bits 8 (getD s i 0) in
+    rw (register-bits (after (bits 16 r) b) (length-after (bits 16 r) b (length-bits 16 r)), add-one i, drop-cons s i 0 h)
+    (ap number (sym (after-append (bits 16 r) b (bitsOf (drop (suc i) s)))))

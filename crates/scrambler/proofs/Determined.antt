@@ -12,8 +12,8 @@ restarted-determined κs a r r′ s s′ p q = p ∙ sym q
 
 pub scramble-determined : (κs a r r′ s s′ : _) → scramble.Post κs a r s → scramble.Post κs a r′ s′
     → (r ≡ r′) × (now (s .1 .0) ≡ now (s′ .1 .0))
-scramble-determined κs a r r′ s s′ p q = (p .0 ∙ sym (q .0), p .1 ∙ sym (q .1))
+scramble-determined κs a r r′ s s′ p q = (p .register ∙ sym (q .register), p .bytes ∙ sym (q .bytes))
 
 pub unscramble-determined : (κs a r r′ s s′ : _) → unscramble.Post κs a r s → unscramble.Post κs a r′ s′
     → (r ≡ r′) × (now (s .1 .0) ≡ now (s′ .1 .0))
-unscramble-determined κs a r r′ s s′ p q = (p .0 ∙ sym (q .0), p .1 ∙ sym (q .1))
+unscramble-determined κs a r r′ s s′ p q = (p .register ∙ sym (q .register), p .bytes ∙ sym (q .bytes))

@@ -1,7 +1,7 @@
 -- Laws of the scrambler over bits, each for both directions, every pair of distances and every history of sent bits.
 -- Assumes nothing.
 use mathlib.Core.Path.{_≡_, refl, sym, ap, ap₂, _∙_}
-use mathlib.Core.Bool.{Bool, true, false}
+use mathlib.Core.Bool.{Bool, false}
 use mathlib.Core.List.{List, [], _∷_, _++_}
 use Prim.Native.Nat.{ℕ, zero, suc, _+_, _-_, _≤_, _<_}
 use native.Mathlib.Nat.{suc-inj, zero-add, suc-add, add-suc}
@@ -70,7 +70,8 @@ unfolding through
 inverse way near far h [] = refl
 inverse way near far h (x ∷ xs) =
     let out = crossed near far h x in
-    let air : onAir (opposite way) out (crossed near far h out) ≡ onAir way x out = ap (onAir (opposite way) out) (crossed-twice near far h x) ∙ other-air way out x in
+    let air : onAir (opposite way) out (crossed near far h out) ≡ onAir way x out =
+    ap (onAir (opposite way) out) (crossed-twice near far h x) ∙ other-air way out x in
     ap₂ _∷_
     (crossed-twice near far h x)
     (ap (λ (a : Bool). through (opposite way) near far (a ∷ h) (through way near far (onAir way x out ∷ h) xs)) air

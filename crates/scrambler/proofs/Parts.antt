@@ -3,15 +3,15 @@
 -- Assumes nothing.
 use mathlib.Core.Path.{_≡_, refl, sym, ap, ap₂, _∙_}
 use mathlib.Core.Bool.{Bool, true, false, cond}
-use mathlib.Core.List.{List, [], _∷_, _++_, reverse, reverse-reverse}
-use Prim.Native.Nat.{ℕ, _+_, _*_, _≤_, _<_}
+use mathlib.Core.List.{List, [], _++_, reverse, reverse-reverse}
+use Prim.Native.Nat.{ℕ, _*_, _≤_, _<_}
 use native.Mathlib.Nat.{le-refl}
 use native.Mathlib.Omega.{arith}
-use lib.ListN.{length, getD, take, length-append, length-take, length-reverse}
+use lib.ListN.{length, take, length-append, length-take, length-reverse}
 use lib.Seq.{getD-take, ext-getD}
 use Rattle.bits.specs.Bits.{_⊞_, bits, number, bitsOf, packed, Bytes}
 use Rattle.bits.proofs.Numbers.{bits-of}
-use Rattle.bits.proofs.Bytes.{length-bitsOf, length-packed, bitsOf-append, packed-bitsOf, bitsOf-packed, packed-append}
+use Rattle.bits.proofs.Bytes.{length-bitsOf, length-packed, bitsOf-append, packed-bitsOf, bitsOf-packed, packed-append, packed-bytes}
 use Rattle.scrambler.specs.declared.Direction.{Direction}
 use Rattle.scrambler.specs.declared.Register.{Register}
 use Rattle.scrambler.specs.Scrambler.{through, sentAfter, remembered, allowed, partThrough, registerThrough, partAnswer}
@@ -33,6 +33,9 @@ module _ (way : Direction) (r : Register) where
 
   pub bits-part : (xs : List ℕ) → bitsOf (partThrough way r xs) ≡ sends xs
   bits-part xs = bitsOf-packed (length xs) (sends xs) (length-sends xs)
+
+  pub bytes-part : (xs : List ℕ) → Bytes (partThrough way r xs)
+  bytes-part xs = packed-bytes (length xs) (sends xs)
 
   -- a changed bit changes none ahead of it
   pub part-ahead : (k : ℕ) (xs ys : List ℕ) → take k (bitsOf xs) ≡ take k (bitsOf ys)
@@ -60,7 +63,9 @@ module _ (way : Direction) (r : Register) where
 -- the other direction gives the bytes back
 pub part-inverse : (way : Direction) (r : Register) (xs : List ℕ) → Bytes xs → partThrough (opposite way) r (partThrough way r xs) ≡ xs
 part-inverse way r xs b =
-    ap₂ packed (length-part way r xs) (ap (through (opposite way) (r .near) (r .far) (start way r)) (bits-part way r xs) ∙ inverse way (r .near) (r .far) (start way r) (bitsOf xs))
+    ap₂ packed (length-part way r xs)
+    (ap (through (opposite way) (r .near) (r .far) (start way r)) (bits-part way r xs)
+    ∙ inverse way (r .near) (r .far) (start way r) (bitsOf xs))
     ∙ packed-bitsOf xs b
 
 -- and so it is with what the two functions leave, whatever the distances
@@ -102,7 +107,8 @@ module _ (way : Direction) (r : Register) (some : 0 < r .far) (ordered : r .near
       (ap (through way (r .near) (r .far) (start way r)) (bitsOf-append xs ys)
       ∙ through-append way (r .near) (r .far) (start way r) (bitsOf xs) (bitsOf ys)
       ∙ ap (λ (l : List Bool). sends way r xs ++ l)
-      (through-alike way (r .near) (r .far) (r .far) some ordered (le-refl (r .far)) (sent way r xs) (start way (next xs)) (bitsOf ys) (handed-alike xs)))
+      (through-alike way (r .near) (r .far) (r .far) some ordered (le-refl (r .far)) (sent way r xs) (start way (next xs))
+      (bitsOf ys) (handed-alike xs)))
       ∙ packed-append (length xs) (length ys) (sends way r xs) (sends way (next xs) ys) (length-sends way r xs)
 
   pub register-append : (xs ys : List ℕ) → registerThrough way r (xs ++ ys) ≡ registerThrough way (next xs) ys
@@ -120,4 +126,5 @@ module _ (way : Direction) (r : Register) (some : 0 < r .far) (ordered : r .near
       same =
           ap (take (r .far)) joined
           ∙ take-alike (r .far) onward (sent way (next xs) ys) (rw joined at (long way r (xs ++ ys))) (long way (next xs) ys)
-          (sentAfter-alike way (r .near) (r .far) (r .far) some ordered (le-refl (r .far)) (sent way r xs) (start way (next xs)) (bitsOf ys) (handed-alike xs))
+          (sentAfter-alike way (r .near) (r .far) (r .far) some ordered (le-refl (r .far)) (sent way r xs) (start way (next xs))
+          (bitsOf ys) (handed-alike xs))

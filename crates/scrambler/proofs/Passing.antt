@@ -1,9 +1,9 @@
 -- A part on its way through the register, byte by byte, in place.
 -- Assumes nothing.
 use mathlib.Core.Path.{_≡_, refl, sym, ap, ap₂, _∙_}
-use mathlib.Core.Bool.{Bool, false}
+use mathlib.Core.Bool.{Bool}
 use mathlib.Core.List.{List, [], _∷_, _++_, reverse, append-nil}
-use Prim.Native.Nat.{ℕ, zero, suc, _+_, _*_, _%_, _^_, _≤_, _<_}
+use Prim.Native.Nat.{ℕ, suc, _+_, _%_, _^_, _≤_, _<_}
 use native.Mathlib.Nat.{mod-eq-of-lt}
 use native.Mathlib.Numerals.{add-one}
 use native.Mathlib.Omega.{arith}
@@ -33,7 +33,9 @@ module _ (way : Direction) (near far : ℕ) where
       let out = through way near far sent (bits 8 x) in
       let rest = through way near far (sentAfter way near far sent (bits 8 x)) (bitsOf xs) in
       ap (packed (suc (length xs))) (through-append way near far sent (bits 8 x) (bitsOf xs))
-      ∙ ap₂ (λ (b : List Bool) (bs : List Bool). number b ∷ packed (length xs) bs) (take-at out rest 8 (one-byte sent x)) (drop-at out rest 8 (one-byte sent x))
+      ∙ ap₂ (λ (b bs : List Bool). number b ∷ packed (length xs) bs)
+      (take-at out rest 8 (one-byte sent x))
+      (drop-at out rest 8 (one-byte sent x))
 
   sent-cons : (sent : List Bool) (x : ℕ) (xs : List ℕ)
       → sentAfter way near far sent (bitsOf (x ∷ xs)) ≡ sentAfter way near far (sentAfter way near far sent (bits 8 x)) (bitsOf xs)
@@ -57,7 +59,8 @@ module _ (way : Direction) (near far : ℕ) where
         let x = getD part i 0 in
         let sent′ = sentAfter way near far (p .sent) (bits 8 x) in
         let rest = drop (suc i) part in
-        let out-is : number (through way near far (p .sent) (bits 8 x)) ≡ out = ap number (sym (passes .comes (p .sent) (p .holds))) ∙ number-bits 8 out ∙ mod-eq-of-lt (passes .small) in
+        let out-is : number (through way near far (p .sent) (bits 8 x)) ≡ out =
+        ap number (sym (passes .comes (p .sent) (p .holds))) ∙ number-bits 8 out ∙ mod-eq-of-lt (passes .small) in
         rw (add-one i)
         (record {
           sent = sent′;
@@ -67,7 +70,9 @@ module _ (way : Direction) (near far : ℕ) where
               ap₂ (λ (l m : List ℕ). l ++ bytesThrough sent′ m) (take-suc-set part i out inside) (drop-set-lt (suc i) part i out (omega arith))
               ∙ append-snoc (take i part) out (bytesThrough sent′ rest)
               ∙ ap (λ (l : List ℕ). take i part ++ l)
-              (sym (ap (bytesThrough (p .sent)) (drop-cons part i 0 inside) ∙ bytes-cons (p .sent) x rest ∙ ap (λ (b : ℕ). b ∷ bytesThrough sent′ rest) out-is))
+              (sym (ap (bytesThrough (p .sent)) (drop-cons part i 0 inside)
+              ∙ bytes-cons (p .sent) x rest
+              ∙ ap (λ (b : ℕ). b ∷ bytesThrough sent′ rest) out-is))
               ∙ p .comes;
           ends =
               ap (λ (l : List ℕ). sentAfter way near far sent′ (bitsOf l)) (drop-set-lt (suc i) part i out (omega arith))

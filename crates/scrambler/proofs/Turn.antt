@@ -3,18 +3,18 @@
 -- Assumes nothing.
 use mathlib.Core.Path.{_≡_, refl, sym, ap, ap₂, _∙_}
 use mathlib.Core.Bool.{Bool, false}
-use mathlib.Core.List.{List, [], _∷_, _++_, append-nil}
+use mathlib.Core.List.{List, _∷_, _++_, append-nil}
 use Prim.Native.Nat.{ℕ, zero, suc, _+_, _-_, _*_, _/_, _%_, _^_, _≤_, _<_}
 use native.Mathlib.Nat.{pow-suc}
 use native.Mathlib.Numerals.{sub-one}
 use native.Mathlib.Omega.{arith}
-use lib.ListN.{length, getD}
+use lib.ListN.{getD}
 use lib.Seq.{append-snoc}
 use Rattle.bits.specs.Bits.{_⊕_, odd, bits}
 use Rattle.bits.proofs.Numbers.{odd-mod, bits-behind}
 use Rattle.scrambler.specs.declared.Direction.{Direction}
 use Rattle.scrambler.specs.declared.Direction.the-variants.{Scramble, Unscramble}
-use Rattle.scrambler.specs.Scrambler.{earlier, crossed, onAir, through, sentAfter}
+use Rattle.scrambler.specs.Scrambler.{crossed, onAir, through, sentAfter}
 use Rattle.scrambler.specs.Walk.{Taps, Held}
 use Rattle.scrambler.proofs.Held.{held-next}
 

@@ -1,6 +1,7 @@
 -- The scrambler (01, "Scrambler"; 02, Five and Seven; FORMAT 5), over any two distances near and far and any start, and
 -- its inverse. Both remember the bits on air, the sent ones; `sent` has the latest of them first.
-use Prim.Native.Nat.{ℕ, _-_}
+use Prim.Native.Nat.{ℕ, _-_, _%_, _^_}
+use mathlib.Core.Path.{_≡_}
 use mathlib.Core.Bool.{Bool, false, _&&_, cond}
 use mathlib.Core.List.{List, [], _∷_, reverse}
 use lib.ListN.{length, getD, take}
@@ -38,9 +39,9 @@ sentAfter way near far sent (b ∷ bs) = sentAfter way near far (onAir way b (cr
 abbrev pub remembered : ℕ → ℕ → List Bool
 remembered far n = reverse (bits far n)
 
--- restarted for each frame: 12, 17, and the low 17 bits of 2C350000, a 1, then sixteen 0s
+-- restarted for each frame: 12 and 17 places, and the low 17 bits of 2C350000
 abbrev pub restarted : Register
-restarted = record { near = 12; far = 17; sent = 0x10000 }
+restarted = record { near = 12; far = 17; sent = 0x2C350000 % 2 ^ 17 }
 
 -- near at least 1, near below far, far at most 32
 unfoldable pub allowed : Register → Bool
@@ -64,3 +65,8 @@ partAnswer way r part = cond (allowed r) (partThrough way r part) part
 
 abbrev pub registerAnswer : Direction → Register → List ℕ → Register
 registerAnswer way r part = cond (allowed r) (registerThrough way r part) r
+
+-- what scrambling and unscrambling in place promise: the register that comes back, and the part that is left
+pub record Passes (way : Direction) (before : Register) (part : List ℕ) (after : Register) (left : List ℕ) : Type 0 where
+  pub register : after ≡ registerAnswer way before part
+  pub bytes : left ≡ partAnswer way before part

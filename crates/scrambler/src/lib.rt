@@ -5,7 +5,7 @@
 mod walk;
 
 ghost use mathlib.Core.Path.{_≡_};
-ghost use Rattle.scrambler.specs.Scrambler.{restarted, partAnswer, registerAnswer};
+ghost use Rattle.scrambler.specs.Scrambler.{restarted, Passes};
 ghost use Rattle.scrambler.specs.declared.Direction.the-variants.{Scramble, Unscramble};
 
 pub enum Direction {
@@ -35,14 +35,14 @@ impl Register {
 
     // Scrambles the part in place. Distances that are not allowed leave the part and the register as they are.
     pub fn scramble(self, part: &mut [u8]) -> Register
-        ensures { λ r. ⌜ (r ≡ registerAnswer Scramble self (now (part .entry))) × (now (part .exit) ≡ partAnswer Scramble self (now (part .entry))) ⌝ }
+        ensures { λ r. ⌜ Passes Scramble self (now (part .entry)) r (now (part .exit)) ⌝ }
     {
         walk::pass(self, Direction::Scramble, part)
     }
 
     // The inverse, in the same way.
     pub fn unscramble(self, part: &mut [u8]) -> Register
-        ensures { λ r. ⌜ (r ≡ registerAnswer Unscramble self (now (part .entry))) × (now (part .exit) ≡ partAnswer Unscramble self (now (part .entry))) ⌝ }
+        ensures { λ r. ⌜ Passes Unscramble self (now (part .entry)) r (now (part .exit)) ⌝ }
     {
         walk::pass(self, Direction::Unscramble, part)
     }

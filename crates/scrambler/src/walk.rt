@@ -6,11 +6,11 @@ ghost use mathlib.Core.Bool.{Bool};
 ghost use mathlib.Core.List.{List};
 ghost use Prim.Native.Nat.{ℕ, _+_, _/_, _%_, _^_, _-_, _≤_, _<_};
 ghost use Rattle.bits.specs.Bits.{odd, _⊕_};
-ghost use Rattle.scrambler.specs.Scrambler.{onAir, partAnswer, registerAnswer};
+ghost use Rattle.scrambler.specs.Scrambler.{onAir, Passes};
 ghost use Rattle.scrambler.specs.Walk.{Taps, PassesByte};
 
 pub fn pass(register: Register, way: Direction, part: &mut [u8]) -> Register
-    ensures { λ r. ⌜ (r ≡ registerAnswer way register (now (part .entry))) × (now (part .exit) ≡ partAnswer way register (now (part .entry))) ⌝ }
+    ensures { λ r. ⌜ Passes way register (now (part .entry)) r (now (part .exit)) ⌝ }
 {
     let near = register.near;
     let far = register.far;

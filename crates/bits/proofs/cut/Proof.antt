@@ -1,7 +1,6 @@
 -- `bits::cut` meets its contract: a quotient and a remainder of the gathered number are the field.
 -- Assumes nothing.
-use mathlib.Core.Path.{_≡_, sym, _∙_, ap}
-use Prim.Native.Nat.{ℕ, _+_, _-_, _*_, _^_, _<_, _≤_}
+use Prim.Native.Nat.{_+_, _-_, _*_}
 use native.Mathlib.Nat.{mod-lt, le-trans}
 use native.Mathlib.Omega.{arith}
 use lib.ListN.{length}
@@ -13,10 +12,6 @@ use Rattle.bits.proofs.Groups.{field-is}
 use borrow.Author.Needs.{needs}
 use Rattle.bits.proofs.cut.Statement.{statement}
 use Rattle.bits.proofs.cut.Tie as tie
-use Rattle.bits.proofs.cut.Reads as reads
-use Rattle.bits.proofs.cut.Lts as lts
-use Rattle.bits.proofs.gather.Reads as gather-reads
-use Rattle.bits.proofs.power.Reads as power-reads
 
 power-requires : tie.Need-power-requires
 power-requires c κs = search needs
@@ -28,22 +23,23 @@ gather-requires : tie.Need-gather-requires
 gather-requires c κs = search needs
 
 div-result : tie.Need-div-result
-div-result c = rw (c .before .power2 .ensures) (pow-pos _)
+div-result c = search needs
 
 rem-result : tie.Need-rem-result
-rem-result c = rw (c .before .before .power .ensures) (pow-pos _)
+rem-result c = search needs
 
 cast-result : tie.Need-cast-result
 cast-result c =
     let a = c .before .before .before .before .args in
-    record { fits = rw (c .before .before .power .ensures) (le-trans (mod-lt _ (pow-pos (a .width))) (pow-mono (c .before .before .before .before .pre .1 .0))) }
+    let narrow = c .before .before .before .before .pre .1 .0 in
+    record { fits = rw (c .before .before .power .ensures .0) (le-trans (mod-lt _ (pow-pos (a .width))) (pow-mono narrow)) }
 
 returns : tie.Need-returns
 unfolding field
 returns c =
     let a = c .before .before .before .before .args in
     let g = bitsOf (now (a .group)) in
-    rw (c .gather .ensures, c .before .power2 .ensures, c .before .before .power .ensures)
+    rw (c .gather .ensures, c .before .power2 .ensures .0, c .before .before .power .ensures .0)
     (field-is g (8 * length (now (a .group)) - (a .width + a .rest)) (a .width) (a .rest) (rw length-bitsOf (omega arith)))
 
 pub cut-spec : {M : Type 1} → statement M

@@ -2,7 +2,7 @@
 -- Assumes nothing.
 use mathlib.Core.Path.{_≡_, _∙_, sym, ap, subst⁻¹}
 use mathlib.Core.List.{List}
-use Prim.Native.Nat.{ℕ, _+_, _-_, _*_, _^_, _≤_, _<_}
+use Prim.Native.Nat.{ℕ, _-_, _^_, _≤_, _<_}
 use borrow.Author.Needs.{needs}
 use native.Mathlib.Omega.{arith}
 use lib.ListN.{length, take, length-take}
@@ -12,8 +12,6 @@ use Rattle.bits.specs.Bits.{number, bitsOf}
 use Rattle.bits.proofs.Groups.{gathered-lt, gathered-next}
 use Rattle.bits.proofs.gather.Statement.{statement}
 use Rattle.bits.proofs.gather.Tie as tie
-use Rattle.bits.proofs.gather.Reads as reads
-use Rattle.bits.proofs.gather.Lts as lts
 
 abbrev Inv-loop : tie.InvT-loop
 Inv-loop group sum₀ i₀ sum i = (i ≤ length group) × (sum ≡ number (bitsOf (take i group)))

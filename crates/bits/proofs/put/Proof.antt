@@ -27,10 +27,10 @@ power-requires-2 : tie.Need-power-requires-2
 power-requires-2 c κs = search needs
 
 div-ahead : tie.Need-div-ahead
-div-ahead c = rw (c .before .before .power2 .ensures) (pow-pos _)
+div-ahead c = search needs
 
 div-ahead-2 : tie.Need-div-ahead-2
-div-ahead-2 c = rw (c .before .before .before .power .ensures) (pow-pos _)
+div-ahead-2 c = search needs
 
 -- The sum that is spread, from the number N that was gathered and the powers S and U. Its parts are asked to fit, one after
 -- the other.
@@ -76,16 +76,24 @@ module _ (xs : List ℕ) (w k v : ℕ) (asked : (length xs ≤ 5) × ((w ≤ 32)
       }
 
 sum-at : (c : tie.After-spread-arg)
-    → Sum (now (c .before .before .before .before .before .before .args .group)) (c .before .before .before .before .before .before .args .width) (c .before .before .before .before .before .before .args .rest) (c .before .before .before .before .before .before .args .value) (c .before .gather .result) (c .before .before .before .before .power .result) (c .before .before .before .power2 .result)
+    → let a = c .before .before .before .before .before .before .args in
+    let span = c .before .before .before .before .power .result in
+    let under = c .before .before .before .power2 .result in
+    Sum (now (a .group)) (a .width) (a .rest) (a .value) (c .before .gather .result) span under
 sum-at c =
     let start = c .before .before .before .before .before .before in
-    sum (now (start .args .group)) (start .args .width) (start .args .rest) (start .args .value) (start .pre) (c .before .gather .result) (c .before .before .before .before .power .result) (c .before .before .before .power2 .result) (c .before .gather .ensures) (c .before .before .before .before .power .ensures) (c .before .before .before .power2 .ensures)
+    let a = start .args in
+    let span = c .before .before .before .before .power in
+    let under = c .before .before .before .power2 in
+    let old = c .before .gather in
+    sum (now (a .group)) (a .width) (a .rest) (a .value) (start .pre) (old .result) (span .result) (under .result)
+    (old .ensures) (span .ensures .0) (under .ensures .0)
 
 mul-spread : tie.Need-mul-spread
 mul-spread c = record { fits = sum-at c .first }
 
 rem-spread : tie.Need-rem-spread
-rem-spread c = rw (c .before .before .before .before .power .ensures) (pow-pos _)
+rem-spread c = search needs
 
 add-spread : tie.Need-add-spread
 add-spread c = record { fits = sum-at c .second }
@@ -94,7 +102,7 @@ mul-spread-2 : tie.Need-mul-spread-2
 mul-spread-2 c = record { fits = sum-at c .third }
 
 rem-spread-2 : tie.Need-rem-spread-2
-rem-spread-2 c = rw (c .before .before .before .power2 .ensures) (pow-pos _)
+rem-spread-2 c = search needs
 
 add-spread-2 : tie.Need-add-spread-2
 add-spread-2 c = record { fits = sum-at c .whole }

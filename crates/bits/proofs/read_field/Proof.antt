@@ -1,28 +1,22 @@
 -- `bits::read_field` meets its contract: the field is that of the bytes it touches.
 -- Assumes nothing.
-use mathlib.Core.Path.{_≡_, sym, _∙_, ap}
-use mathlib.Core.Bool.{Bool, cond}
-use mathlib.Core.List.{List}
-use Prim.Native.Nat.{ℕ, _+_, _-_, _*_, _^_, _<_, _≤_}
-use native.Mathlib.Omega.{arith}
-use lib.ListN.{length, take, drop, length-take, length-drop}
+use mathlib.Core.Path.{sym, _∙_}
+use lib.ListN.{length}
 use denote.Ref.{now}
-use Rattle.bits.specs.Bits.{field, isField, fieldAnswer}
+use Rattle.bits.specs.Bits.{field}
 use Rattle.bits.specs.Located.{Touches}
 use Rattle.bits.proofs.Places.{is-field, asked, field-touched}
 use borrow.Author.Needs.{needs}
 use Rattle.bits.proofs.read_field.Statement.{statement}
 use Rattle.bits.proofs.read_field.Tie as tie
-use Rattle.bits.proofs.read_field.Reads as reads
-use Rattle.bits.proofs.read_field.Lts as lts
-use Rattle.bits.proofs.cut.Reads as cut-reads
-use Rattle.bits.proofs.locate.Reads as locate-reads
 
 locate-requires : tie.Need-locate-requires
 locate-requires c κs = search needs
 
 -- the field's bytes, where it lies inside
-touches : (c : tie.Then1) → Touches (length (now (c .before .before .before .args .bytes))) (c .before .before .before .args .at) (c .before .before .before .args .width) (c .before .locate .result)
+touches : (c : tie.Then1)
+    → let a = c .before .before .before .args in
+    Touches (length (now (a .bytes))) (a .at) (a .width) (c .before .locate .result)
 touches c = c .before .locate .ensures .lies (c .if1 .taken)
 
 sub-cut : tie.Need-sub-cut

@@ -1,6 +1,6 @@
 -- `bits::replace_field` meets its contract: the field is replaced in the bytes it touches, and the others stay.
 -- Assumes nothing.
-use mathlib.Core.Path.{_≡_, sym, _∙_, ap}
+use mathlib.Core.Path.{sym, _∙_, ap}
 use mathlib.Core.List.{List, _++_}
 use Prim.Native.Nat.{ℕ, _-_}
 use lib.ListN.{length, take, drop}
@@ -10,15 +10,13 @@ use Rattle.bits.proofs.Places.{is-field, asked, replaced-touched}
 use borrow.Author.Needs.{needs}
 use Rattle.bits.proofs.replace_field.Statement.{statement}
 use Rattle.bits.proofs.replace_field.Tie as tie
-use Rattle.bits.proofs.replace_field.Reads as reads
-use Rattle.bits.proofs.replace_field.Lts as lts
-use Rattle.bits.proofs.locate.Reads as locate-reads
-use Rattle.bits.proofs.put.Reads as put-reads
 
 locate-requires : tie.Need-locate-requires
 locate-requires c κs = search needs
 
-touches : (c : tie.Then1) → Touches (length (now (c .before .before .before .args .bytes))) (c .before .before .before .args .at) (c .before .before .before .args .width) (c .before .locate .result)
+touches : (c : tie.Then1)
+    → let a = c .before .before .before .args in
+    Touches (length (now (a .bytes))) (a .at) (a .width) (c .before .locate .result)
 touches c = c .before .locate .ensures .lies (c .if1 .taken)
 
 sub-put : tie.Need-sub-put
@@ -43,8 +41,12 @@ returns c =
     let a = c .before .before .before .before .before .before .before .args in
     let l = c .before .before .before .before .before .locate in
     let inside = sym (is-field (a .at) (a .width) (now (a .bytes)) (l .result) (l .ensures)) ∙ c .before .before .before .before .if1 .taken in
-    ap (λ (ys : List ℕ). take (l .result .first) (now (a .bytes)) ++ (ys ++ drop (l .result .end - l .result .first) (drop (l .result .first) (now (a .bytes))))) (c .before .before .put .ensures)
-    ∙ replaced-touched (a .at) (a .width) (now (a .bytes)) (l .result) (touches (c .before .before .before .before)) (λ i. c .before .before .before .before .before .before .slice-known .given i .fits) (a .value)
+    let s = now (a .bytes) in
+    let first = l .result .first in
+    let count = l .result .end - first in
+    ap (λ (ys : List ℕ). take first s ++ (ys ++ drop count (drop first s))) (c .before .before .put .ensures)
+    ∙ replaced-touched (a .at) (a .width) s (l .result) (touches (c .before .before .before .before))
+    (λ i. c .before .before .before .before .before .before .slice-known .given i .fits) (a .value)
     ∙ rw inside
 
 returns-2 : tie.Need-returns-2

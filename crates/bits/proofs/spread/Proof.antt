@@ -1,9 +1,9 @@
 -- `bits::spread` meets its contract. The invariant: what is left of the value, in the bytes still to come, ahead of the
 -- bytes already stored, is the value in bytes.
 -- Assumes nothing.
-use mathlib.Core.Path.{_≡_, refl, _∙_, sym, ap}
+use mathlib.Core.Path.{_≡_, refl, _∙_}
 use mathlib.Core.List.{_++_, append-nil}
-use Prim.Native.Nat.{ℕ, _+_, _-_, _*_, _≤_}
+use Prim.Native.Nat.{_≤_}
 use native.Mathlib.Omega.{arith}
 use borrow.Author.Needs.{needs}
 use lib.ListN.{length, drop, length-set}
@@ -13,8 +13,6 @@ use Rattle.bits.specs.Bits.{inBytes, packed}
 use Rattle.bits.proofs.Groups.{spread-next}
 use Rattle.bits.proofs.spread.Statement.{statement}
 use Rattle.bits.proofs.spread.Tie as tie
-use Rattle.bits.proofs.spread.Reads as reads
-use Rattle.bits.proofs.spread.Lts as lts
 
 abbrev Inv-loop : tie.InvT-loop
 Inv-loop group₀ value left₀ i₀ group left i =

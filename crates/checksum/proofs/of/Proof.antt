@@ -1,22 +1,18 @@
 -- `checksum::of` meets its contract. The invariant: the bytes that are left lead from the register to the answer.
 -- Assumes nothing.
-use mathlib.Core.Path.{_≡_, sym, ap, _∙_}
-use Prim.Native.Nat.{ℕ, _+_, _-_, _≤_, _<_}
+use mathlib.Core.Path.{_≡_, sym, _∙_}
+use Prim.Native.Nat.{_-_, _≤_, _<_}
 use native.Mathlib.Nat.{mod-eq-of-lt}
 use native.Mathlib.Omega.{arith}
 use borrow.Author.Needs.{needs}
-use lib.ListN.{length, drop, getD, drop-of-length-le}
+use lib.ListN.{length, drop, drop-of-length-le}
 use denote.Ref.{now}
 use Rattle.bits.specs.Bits.{bits, number, bitsOf}
-use Rattle.bits.proofs.Numbers.{length-bits, number-bits}
-use Rattle.checksum.specs.Checksum.{after, stepped, checksum}
-use Rattle.checksum.proofs.Division.{length-after}
-use Rattle.checksum.proofs.Register.{register-lt, byte-next}
+use Rattle.bits.proofs.Numbers.{number-bits}
+use Rattle.checksum.specs.Checksum.{after, checksum}
+use Rattle.checksum.proofs.Register.{byte-next}
 use Rattle.checksum.proofs.of.Statement.{statement}
 use Rattle.checksum.proofs.of.Tie as tie
-use Rattle.checksum.proofs.of.Reads as reads
-use Rattle.checksum.proofs.of.Lts as lts
-use Rattle.checksum.proofs.step.Reads as step-reads
 
 abbrev Inv-loop : tie.InvT-loop
 Inv-loop bytes register₀ i₀ register i =
@@ -57,7 +53,8 @@ unfolding after bitsOf
 returns c =
     let l = c .before .loop in
     let s = now (c .before .before .before .args .bytes) in
-    let e : number (after (bits 16 (l .register)) (bitsOf (drop (l .i) s))) ≡ number (bits 16 (l .register)) = rw (drop-of-length-le s (c .loop-test .left)) in
+    let r = bits 16 (l .register) in
+    let e : number (after r (bitsOf (drop (l .i) s))) ≡ number r = rw (drop-of-length-le s (c .loop-test .left)) in
     sym (number-bits 16 (l .register) ∙ mod-eq-of-lt (l .inv .1 .0)) ∙ sym e ∙ l .inv .1 .1
 
 pub of-spec : {M : Type 1} → statement M

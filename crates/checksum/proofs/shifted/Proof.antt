@@ -1,6 +1,6 @@
 -- `checksum::shifted` meets its contract: the test finds the highest bit.
 -- Assumes nothing.
-use mathlib.Core.Path.{_≡_, refl, sym, ap, _∙_}
+use mathlib.Core.Path.{_≡_, sym, _∙_}
 use mathlib.Core.Bool.{true, false}
 use Prim.Native.Nat.{ℕ, _*_, _/_, _%_, _≤_, _<_}
 use native.Mathlib.Omega.{arith}
@@ -10,8 +10,6 @@ use Rattle.checksum.proofs.Register.{shifted-is}
 use borrow.Author.Needs.{needs}
 use Rattle.checksum.proofs.shifted.Statement.{statement}
 use Rattle.checksum.proofs.shifted.Tie as tie
-use Rattle.checksum.proofs.shifted.Reads as reads
-use Rattle.checksum.proofs.shifted.Lts as lts
 
 mul-moved : tie.Need-mul-moved
 mul-moved c = search needs

@@ -1,8 +1,8 @@
 -- `checksum::step` meets its contract. The invariant: the shifts that are left lead from the register to the answer.
 -- Assumes nothing.
-use mathlib.Core.Path.{_≡_, sym, ap, _∙_}
+use mathlib.Core.Path.{_≡_, sym, _∙_}
 use mathlib.Core.Bool.{false}
-use Prim.Native.Nat.{ℕ, _*_, _<_}
+use Prim.Native.Nat.{_*_, _<_}
 use native.Mathlib.Nat.{mod-eq-of-lt}
 use native.Mathlib.Omega.{arith}
 use borrow.Author.Needs.{needs}
@@ -15,9 +15,6 @@ use Rattle.checksum.proofs.Division.{length-divided}
 use Rattle.checksum.proofs.Register.{register-lt, step-from, shift-next}
 use Rattle.checksum.proofs.step.Statement.{statement}
 use Rattle.checksum.proofs.step.Tie as tie
-use Rattle.checksum.proofs.step.Reads as reads
-use Rattle.checksum.proofs.step.Lts as lts
-use Rattle.checksum.proofs.shifted.Reads as shifted-reads
 
 abbrev Inv-loop : tie.InvT-loop
 Inv-loop register byte r₀ left₀ r left =

@@ -1,6 +1,5 @@
 -- `scrambler::walk::lowest` meets its contract.
 -- Assumes nothing.
-use Prim.Native.Nat.{ℕ, _<_, _%_, _^_}
 use native.Mathlib.Nat.{mod-lt, le-trans}
 use native.Mathlib.Omega.{arith}
 use lib.Pow.{pow-pos, pow-mono}
@@ -8,8 +7,6 @@ use Rattle.bits.proofs.Numbers.{one-shifted}
 use borrow.Author.Needs.{needs}
 use Rattle.scrambler.proofs.walk.lowest.Statement.{statement}
 use Rattle.scrambler.proofs.walk.lowest.Tie as tie
-use Rattle.scrambler.proofs.walk.lowest.Reads as reads
-use Rattle.scrambler.proofs.walk.lowest.Lts as lts
 
 shl-result : tie.Need-shl-result
 shl-result c = search needs
@@ -19,7 +16,11 @@ rem-result c = rw (one-shifted (c .args .far) (omega arith)) (pow-pos (c .args .
 
 cast-result : tie.Need-cast-result
 cast-result c =
-    record { fits = rw (one-shifted (c .args .far) (omega arith)) (le-trans (mod-lt (c .args .sent) (pow-pos (c .args .far))) (pow-mono {j = 32} (c .pre))) }
+    record {
+      fits =
+          rw (one-shifted (c .args .far) (omega arith))
+          (le-trans (mod-lt (c .args .sent) (pow-pos (c .args .far))) (pow-mono {j = 32} (c .pre)));
+    }
 
 returns : tie.Need-returns
 returns c = rw (one-shifted (c .args .far) (omega arith))

@@ -1,8 +1,8 @@
 -- `scrambler::walk::pass` meets its contract. The invariant: the part is on its way through the register.
 -- Assumes nothing.
-use mathlib.Core.Path.{_≡_, refl, sym, ap, _∙_}
+use mathlib.Core.Path.{_≡_, refl, sym, _∙_}
 use mathlib.Core.Bool.{true, false}
-use Prim.Native.Nat.{ℕ, _+_, _-_, _≤_, _<_}
+use Prim.Native.Nat.{_-_, _≤_, _<_}
 use native.Mathlib.Nat.{le-of-eq}
 use native.Mathlib.Omega.{arith}
 use borrow.Author.Needs.{needs}
@@ -16,10 +16,6 @@ use Rattle.scrambler.proofs.Held.{held-start, length-remembered}
 use Rattle.scrambler.proofs.Passing.{Passing, passing-start, passing-next, passing-end}
 use Rattle.scrambler.proofs.walk.pass.Statement.{statement}
 use Rattle.scrambler.proofs.walk.pass.Tie as tie
-use Rattle.scrambler.proofs.walk.pass.Reads as reads
-use Rattle.scrambler.proofs.walk.pass.Lts as lts
-use Rattle.scrambler.proofs.walk.lowest.Reads as lowest-reads
-use Rattle.scrambler.proofs.walk.pass_byte.Reads as pass-byte-reads
 
 abbrev Inv-loop : tie.InvT-loop
 Inv-loop way part₀ near far sent₀ i₀ part sent i =
@@ -53,17 +49,17 @@ taps c = record { least = omega arith; ordered = omega arith; most = omega arith
 returns : tie.Need-returns Inv-loop μ-loop
 returns c =
     let no = none-near (c .before .before .args .register) (c .if1 .taken) in
-    (rw no, rw no)
+    record { register = rw no; bytes = rw no }
 
 returns-2 : tie.Need-returns-2 Inv-loop μ-loop
 returns-2 c =
     let no = not-ordered (c .before .before .before .args .register) (c .before .if1 .left) (c .if2 .taken) in
-    (rw no, rw no)
+    record { register = rw no; bytes = rw no }
 
 returns-3 : tie.Need-returns-3 Inv-loop μ-loop
 returns-3 c =
     let no = too-far (c .before .before .before .before .args .register) (c .before .before .if1 .left) (c .before .if2 .left) (c .if3 .taken) in
-    (rw no, rw no)
+    record { register = rw no; bytes = rw no }
 
 loop-holds : tie.Need-loop-holds Inv-loop μ-loop
 loop-holds c =
@@ -72,7 +68,8 @@ loop-holds c =
       omega arith,
       (
         refl,
-        passing-start (a .way) (r .near) (r .far) (remembered (r .far) (r .sent)) (now (a .part)) (r .sent) (held-start (r .far) (r .sent)) (le-of-eq (sym (length-remembered (r .far) (r .sent)))),
+        passing-start (a .way) (r .near) (r .far) (remembered (r .far) (r .sent)) (now (a .part)) (r .sent)
+            (held-start (r .far) (r .sent)) (le-of-eq (sym (length-remembered (r .far) (r .sent)))),
       ),
     )
 
@@ -99,7 +96,9 @@ loop-again c =
       simp length-set (omega arith),
       (
         length-set (l .part) (l .i) (c .pass-byte .result .byte) ∙ l .inv .1 .0,
-        passing-next (a .way) (r .near) (r .far) (remembered (r .far) (r .sent)) (now (a .part)) (l .part) (l .sent) (l .i) (c .pass-byte .result .sent) (c .pass-byte .result .byte) (c .before .before .loop-test .taken) (c .pass-byte .ensures) (l .inv .1 .1),
+        passing-next (a .way) (r .near) (r .far) (remembered (r .far) (r .sent)) (now (a .part)) (l .part) (l .sent) (l .i)
+            (c .pass-byte .result .sent) (c .pass-byte .result .byte) (c .before .before .loop-test .taken)
+            (c .pass-byte .ensures) (l .inv .1 .1),
       ),
     )
 
@@ -115,10 +114,13 @@ returns-4 c =
     let l = c .before .before .loop in
     let r = a .register in
     let yes = taps-allowed r (taps (c .before .before .before)) in
-    let end = passing-end (a .way) (r .near) (r .far) (remembered (r .far) (r .sent)) (now (a .part)) (l .part) (l .sent) (l .i) (c .before .loop-test .left) (l .inv .1 .1) in (
-      rw yes (λ k. record { near = r .near; far = r .far; sent = (c .lowest .ensures ∙ end .0) k }),
-      rw yes (end .1),
-    )
+    let first = remembered (r .far) (r .sent) in
+    let end =
+    passing-end (a .way) (r .near) (r .far) first (now (a .part)) (l .part) (l .sent) (l .i) (c .before .loop-test .left) (l .inv .1 .1) in
+    record {
+      register = rw yes (λ k. record { near = r .near; far = r .far; sent = (c .lowest .ensures ∙ end .0) k });
+      bytes = rw yes (end .1);
+    }
 
 pub pass-spec : {M : Type 1} → statement M
 pass-spec =

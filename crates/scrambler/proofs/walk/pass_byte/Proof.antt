@@ -1,23 +1,18 @@
 -- `scrambler::walk::pass_byte` meets its contract. The invariant: whatever sent bits the register held at first, the
 -- byte is on its way through them.
 -- Assumes nothing.
-use mathlib.Core.Path.{_≡_, refl, sym, ap, _∙_}
+use mathlib.Core.Path.{_≡_, refl}
 use mathlib.Core.Bool.{Bool}
 use mathlib.Core.List.{List}
-use Prim.Native.Nat.{ℕ, _+_, _-_, _*_, _/_, _%_, _^_, _≤_, _<_}
+use Prim.Native.Nat.{_+_, _-_, _*_, _/_, _%_, _^_, _≤_, _<_}
 use native.Mathlib.Nat.{le-trans, mod-lt, zero-lt-suc}
 use native.Mathlib.Omega.{arith}
 use borrow.Author.Needs.{needs}
 use lib.Pow.{pow-mono}
-use Rattle.scrambler.specs.Scrambler.{onAir}
-use Rattle.scrambler.specs.Walk.{Taps, Held}
+use Rattle.scrambler.specs.Walk.{Held}
 use Rattle.scrambler.proofs.Turn.{Going, going-start, going-next, going-end, air-lt, out-lt}
 use Rattle.scrambler.proofs.walk.pass_byte.Statement.{statement}
 use Rattle.scrambler.proofs.walk.pass_byte.Tie as tie
-use Rattle.scrambler.proofs.walk.pass_byte.Reads as reads
-use Rattle.scrambler.proofs.walk.pass_byte.Lts as lts
-use Rattle.scrambler.proofs.walk.on_air.Reads as on-air-reads
-use Rattle.scrambler.proofs.walk.step.Reads as step-reads
 
 abbrev Inv-loop : tie.InvT-loop
 Inv-loop way near far sent byte held₀ out₀ left₀ held out left =
@@ -50,7 +45,9 @@ on-air-requires c κs = search needs
 air : (c : tie.After-on-air Inv-loop μ-loop) → c .on-air .result < 2
 air c =
     let bit = c .before .before .before .before .args .byte / 2 ^ (c .before .before .before .loop .left - 1) % 2 in
-    rw (c .on-air .ensures) (air-lt (c .before .before .before .before .args .way) bit (c .before .step .result) (mod-lt _ (zero-lt-suc 1)) (c .before .step .ensures .0))
+    let way = c .before .before .before .before .args .way in
+    rw (c .on-air .ensures)
+    (air-lt way bit (c .before .step .result) (mod-lt _ (zero-lt-suc 1)) (c .before .step .ensures .0))
 
 longer : (c : tie.After-on-air Inv-loop μ-loop)
     → c .before .before .before .loop .out * 2 + c .before .step .result < 2 ^ (8 - (c .before .before .before .loop .left - 1))
@@ -86,7 +83,9 @@ loop-again c =
       (
         longer c,
         λ h k. rw (c .on-air .ensures)
-            (going-next (a .way) (a .near) (a .far) h (a .byte) (c .before .before .before .before .pre) (l .held) (l .out) bit crossed (mod-lt _ (zero-lt-suc 1)) (c .before .step .ensures .0) (c .before .step .ensures .1) (l .left) (c .before .before .loop-test .taken) (l .inv .0) refl (l .inv .1 .1 h k)),
+            (going-next (a .way) (a .near) (a .far) h (a .byte) (c .before .before .before .before .pre) (l .held) (l .out) bit
+            crossed (mod-lt _ (zero-lt-suc 1)) (c .before .step .ensures .0) (c .before .step .ensures .1)
+            (l .left) (c .before .before .loop-test .taken) (l .inv .0) refl (l .inv .1 .1 h k)),
       ),
     )
 

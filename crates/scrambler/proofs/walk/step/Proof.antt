@@ -1,16 +1,14 @@
 -- `scrambler::walk::step` meets its contract: a sum modulo 2 is xor.
 -- Assumes nothing.
-use mathlib.Core.Path.{_≡_, ap, ap₂, _∙_}
+use mathlib.Core.Path.{ap, ap₂, _∙_}
 use mathlib.Core.Bool.{Bool}
-use Prim.Native.Nat.{ℕ, _+_, _-_, _/_, _%_, _^_, _<_}
+use Prim.Native.Nat.{_+_, _-_, _/_, _%_, _^_}
 use native.Mathlib.Nat.{mod-lt, zero-lt-suc}
 use Rattle.bits.specs.Bits.{_⊕_, odd}
 use Rattle.bits.proofs.Numbers.{odd-add, odd-mod}
 use borrow.Author.Needs.{needs}
 use Rattle.scrambler.proofs.walk.step.Statement.{statement}
 use Rattle.scrambler.proofs.walk.step.Tie as tie
-use Rattle.scrambler.proofs.walk.step.Reads as reads
-use Rattle.scrambler.proofs.walk.step.Lts as lts
 
 sub-result : tie.Need-sub-result
 sub-result c = search needs
@@ -36,7 +34,9 @@ returns c =
     let n = a .sent / 2 ^ (a .near - 1) in
     let f = a .sent / 2 ^ (a .far - 1) in (
       mod-lt (a .bit + n % 2 + f % 2) (zero-lt-suc 1),
-      odd-mod (a .bit + n % 2 + f % 2) ∙ odd-add (a .bit + n % 2) (f % 2) ∙ ap₂ _⊕_ (odd-add (a .bit) (n % 2) ∙ ap (λ (x : Bool). odd (a .bit) ⊕ x) (odd-mod n)) (odd-mod f),
+      odd-mod (a .bit + n % 2 + f % 2)
+          ∙ odd-add (a .bit + n % 2) (f % 2)
+          ∙ ap₂ _⊕_ (odd-add (a .bit) (n % 2) ∙ ap (λ (x : Bool). odd (a .bit) ⊕ x) (odd-mod n)) (odd-mod f),
     )
 
 pub step-spec : {M : Type 1} → statement M

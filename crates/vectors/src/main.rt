@@ -1,0 +1,33 @@
+// Answers questions about the leaves: checksum, scrambler, fields. A question is a line of standard input in
+// hexadecimal; it is written again with its answer behind it. Lines that begin with '#', and empty ones, are written as
+// they are.
+//
+//     checksum DATA                           = 7D58
+//     scramble NEAR FAR START DATA            = DATA REGISTER     (1, 1, 4 and any number of bytes)
+//     unscramble NEAR FAR START DATA          = DATA REGISTER
+//     field START WIDTH DATA                  = VALUE             (2, 1 and any number of bytes)
+//     replace START WIDTH VALUE DATA          = DATA              (2, 1, 4 and any number of bytes)
+mod hex;
+mod question;
+mod text;
+
+use libc::STDIN_FILENO;
+use libc::STDOUT_FILENO;
+
+fn main() {
+    let mut input = io::large_buffer();
+    let n = io::read_full(STDIN_FILENO, &mut input);
+    lines(&input[..n]);
+}
+
+fn lines(text: &[u8]) {
+    let mut at = 0;
+    while at < text.len() {
+        let end = text::until(text, at, b'\n');
+        let line = &text[at..end];
+        io::write_all(STDOUT_FILENO, line);
+        question::answer(line);
+        io::write_all(STDOUT_FILENO, b"\n");
+        at = end + 1;
+    }
+}

@@ -1,0 +1,107 @@
+// One question: its word, its parameters, and what the leaf answers.
+use crate::hex;
+use crate::text;
+use libc::STDOUT_FILENO;
+use scrambler::Register;
+
+pub fn answer(line: &[u8]) {
+    if line.len() == 0 {
+        return;
+    }
+    if line[0] == b'#' {
+        return;
+    }
+    io::write_all(STDOUT_FILENO, b" = ");
+    let mut data = [0u8; 512];
+    parts(line, &mut data);
+}
+
+// The question's word and its bytes, which go to `data`.
+fn parts(line: &[u8], data: &mut [u8]) {
+    let n = text::until(line, 0, b' ');
+    let p = hex::parse(&line[n..], data);
+    let whole = p.whole;
+    let count = p.count;
+    if whole {
+        ask(&line[0..n], &mut data[0..count]);
+    } else {
+        malformed();
+    }
+}
+
+fn ask(word: &[u8], data: &mut [u8]) {
+    if check::same(word, b"checksum") {
+        hex::print_number(checksum::of(data) as u32, 2);
+    } else if check::same(word, b"scramble") {
+        scramble(data);
+    } else if check::same(word, b"unscramble") {
+        unscramble(data);
+    } else if check::same(word, b"field") {
+        field(data);
+    } else if check::same(word, b"replace") {
+        replace(data);
+    } else {
+        malformed();
+    }
+}
+
+fn malformed() {
+    io::write_all(STDOUT_FILENO, b"?");
+}
+
+// The register that the first six bytes give: near, far, and four bytes of sent bits.
+fn register(data: &[u8]) -> Register {
+    Register {
+        near: bits::read_field(data, 0, 8),
+        far: bits::read_field(data, 8, 8),
+        sent: bits::read_field(data, 16, 32),
+    }
+}
+
+fn scramble(data: &mut [u8]) {
+    if data.len() < 6 {
+        malformed();
+        return;
+    }
+    let after = register(data).scramble(&mut data[6..]);
+    print_part(data, after);
+}
+
+fn unscramble(data: &mut [u8]) {
+    if data.len() < 6 {
+        malformed();
+        return;
+    }
+    let after = register(data).unscramble(&mut data[6..]);
+    print_part(data, after);
+}
+
+fn print_part(data: &[u8], after: Register) {
+    if 6 < data.len() {
+        hex::print(&data[6..]);
+        io::write_all(STDOUT_FILENO, b" ");
+    }
+    hex::print_number(after.sent, 4);
+}
+
+fn field(data: &[u8]) {
+    if data.len() < 3 {
+        malformed();
+        return;
+    }
+    let at = bits::read_field(data, 0, 16) as usize;
+    let width = bits::read_field(data, 16, 8) as usize;
+    hex::print_number(bits::read_field(&data[3..], at, width), 4);
+}
+
+fn replace(data: &mut [u8]) {
+    if data.len() < 7 {
+        malformed();
+        return;
+    }
+    let at = bits::read_field(data, 0, 16) as usize;
+    let width = bits::read_field(data, 16, 8) as usize;
+    let value = bits::read_field(data, 24, 32);
+    bits::replace_field(&mut data[7..], at, width, value);
+    hex::print(&data[7..]);
+}
