@@ -2,41 +2,36 @@
 -- field is that of the bytes it touches.
 -- Assumes nothing.
 use mathlib.Core.Path.{_≡_, refl, sym, ap, ap₂, _∙_}
-use mathlib.Core.Bool.{Bool}
+use mathlib.Core.Bool.{Bool, true, _&&_}
 use mathlib.Core.List.{List, [], _∷_, _++_, append-assoc}
 use Prim.Native.Nat.{ℕ, zero, suc, _+_, _*_, _^_, _%_, _≤_}
 use native.Mathlib.Nat.{add-assoc}
 use native.Mathlib.Omega.{arith}
-use lib.ListN.{length, take, drop, length-append, length-take, length-drop, take-append-drop}
+use borrow.Author.Tests.{le-leb}
+use lib.ListN.{length, take, drop, length-take, length-drop, take-append-drop}
 use lib.Seq.{take-at, drop-at, take-append-add, drop-append-add, take-append-le, drop-append-le, take-take, drop-drop}
-use Rattle.bits.specs.Bits.{bits, number, bitsOf, packed, field, replaced, Bytes}
+use Rattle.bits.specs.Bits.{bits, number, bitsOf, packed, field, changed, replaced, isField, fieldAnswer, replacedAnswer, Bytes}
 use Rattle.bits.proofs.Numbers.{length-bits, number-bits, bits-of}
 use Rattle.bits.proofs.Bytes.{length-bitsOf, length-packed, take-bitsOf, drop-bitsOf, bitsOf-append, packed-bitsOf, bitsOf-packed, packed-append}
-use Rattle.bits.proofs.Groups.{parts}
+use Rattle.bits.proofs.Groups.{parts, length-changed}
 
 -- ---- what replacing does to the bits
 
+pub length-replaced : (at w v : ℕ) (s : List ℕ) → length (replaced at w v s) ≡ length s
+unfolding replaced
+length-replaced at w v s = length-packed (length s) (changed at w v (bitsOf s))
+
 module _ (at w v : ℕ) (s : List ℕ) (h : at + w ≤ 8 * length s) where
-  pub length-replaced : length (replaced at w v s) ≡ length s
-  unfolding replaced
-  length-replaced = length-packed (length s) (take at (bitsOf s) ++ (bits w v ++ drop (at + w) (bitsOf s)))
+  inside : at + w ≤ length (bitsOf s)
+  inside = rw length-bitsOf h
 
   ahead : length (take at (bitsOf s)) ≡ at
   ahead = rw (length-take, length-bitsOf) (omega arith)
 
-  pub bits-replaced : bitsOf (replaced at w v s) ≡ take at (bitsOf s) ++ (bits w v ++ drop (at + w) (bitsOf s))
+  pub bits-replaced : bitsOf (replaced at w v s) ≡ changed at w v (bitsOf s)
   unfolding replaced
   bits-replaced =
-      bitsOf-packed (length s) (take at (bitsOf s) ++ (bits w v ++ drop (at + w) (bitsOf s)))
-      (rw (
-        length-append (take at (bitsOf s)) (bits w v ++ drop (at + w) (bitsOf s)),
-        ahead,
-        length-append (bits w v) (drop (at + w) (bitsOf s)),
-        length-bits w v,
-        length-drop,
-        length-bitsOf,
-      )
-      (omega arith))
+      bitsOf-packed (length s) (changed at w v (bitsOf s)) (length-changed at w v (bitsOf s) inside ∙ length-bitsOf s)
 
   -- the bits ahead of the field and behind it stay
   pub replaced-ahead : take at (bitsOf (replaced at w v s)) ≡ take at (bitsOf s)
@@ -53,6 +48,18 @@ module _ (at w v : ℕ) (s : List ℕ) (h : at + w ≤ 8 * length s) where
   pub field-replaced : field at w (replaced at w v s) ≡ v % 2 ^ w
   unfolding field
   field-replaced = rw (from-field, take-at (bits w v) (drop (at + w) (bitsOf s)) w (length-bits w v)) (number-bits w v)
+
+-- ---- what the functions answer
+
+pub is-field : (at w : ℕ) (s : List ℕ) → w ≤ 32 → at + w ≤ 8 * length s → isField at w s ≡ true
+unfolding isField
+is-field at w s n h = ap₂ _&&_ (le-leb w 32 n) (le-leb (at + w) (8 * length s) h)
+
+-- reading what was replaced gives the value's low bits, for every width from 0 to 32
+pub read-replaced : (at w v : ℕ) (s : List ℕ) → w ≤ 32 → at + w ≤ 8 * length s
+    → fieldAnswer at w (replacedAnswer at w v s) ≡ v % 2 ^ w
+read-replaced at w v s n h =
+    rw (is-field at w s n h, is-field at w (replaced at w v s) n (rw (length-replaced at w v s) h)) (field-replaced at w v s h)
 
 -- a field replaced by its own value leaves the bytes as they are
 pub replaced-same : (at w : ℕ) (s : List ℕ) → at + w ≤ 8 * length s → Bytes s → replaced at w (field at w s) s ≡ s
@@ -106,9 +113,6 @@ module _ (q t r w : ℕ) (s : List ℕ) (inner : r + w ≤ 8 * t) where
     abbrev after : List ℕ
     after = drop t (drop q s)
 
-    abbrev changed : ℕ → List Bool
-    changed v = take r (bitsOf touched) ++ (bits w v ++ drop (r + w) (bitsOf touched))
-
     before-length : length before ≡ q
     before-length = rw length-take (omega arith)
 
@@ -141,24 +145,17 @@ module _ (q t r w : ℕ) (s : List ℕ) (inner : r + w ≤ 8 * t) where
         ∙ rw (split, ← before-bits, drop-append-add (bitsOf before) (bitsOf touched ++ bitsOf after) (r + w))
         (drop-append-le (r + w) (bitsOf touched) (bitsOf after) (rw touched-bits inner))
 
-    changed-length : (v : ℕ) → length (changed v) ≡ 8 * t
-    changed-length v =
-        rw (
-          length-append (take r (bitsOf touched)) (bits w v ++ drop (r + w) (bitsOf touched)),
-          length-append (bits w v) (drop (r + w) (bitsOf touched)),
-          length-bits w v,
-          length-take,
-          length-drop,
-          touched-bits,
-        )
-        (omega arith)
+    changed-length : (v : ℕ) → length (changed r w v (bitsOf touched)) ≡ 8 * t
+    changed-length v = length-changed r w v (bitsOf touched) (rw touched-bits inner) ∙ touched-bits
 
     pub replaced-part : (v : ℕ) → replaced (8 * q + r) w v s ≡ before ++ (replaced r w v touched ++ after)
     unfolding replaced
     replaced-part v =
         rw (taken, dropped)
         (ap₂ packed whole (simp append-assoc)
-        ∙ packed-append q (t + length after) (bitsOf before) (changed v ++ bitsOf after) before-bits
+        ∙ packed-append q (t + length after) (bitsOf before) (changed r w v (bitsOf touched) ++ bitsOf after) before-bits
         ∙ ap₂ _++_ (rw before-length at (packed-bitsOf before (take-bytes q s b)))
-        (packed-append t (length after) (changed v) (bitsOf after) (changed-length v)
-        ∙ ap₂ _++_ (ap (λ (n : ℕ). packed n (changed v)) (sym touched-length)) (packed-bitsOf after (drop-bytes t (drop q s) (drop-bytes q s b)))))
+        (packed-append t (length after) (changed r w v (bitsOf touched)) (bitsOf after) (changed-length v)
+        ∙ ap₂ _++_
+        (ap (λ (n : ℕ). packed n (changed r w v (bitsOf touched))) (sym touched-length))
+        (packed-bitsOf after (drop-bytes t (drop q s) (drop-bytes q s b)))))

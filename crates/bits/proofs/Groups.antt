@@ -11,8 +11,8 @@ use native.Mathlib.Omega.{arith}
 use lib.ListN.{length, getD, take, drop, set, length-append, length-take, length-drop, take-append-drop}
 use lib.Seq.{take-suc, take-all, drop-cons, lt-length-set, getD-set-same, drop-set-lt, append-snoc, drop-drop}
 use lib.Pow.{pow-mono, pow-add, high, low}
-use Rattle.bits.specs.Bits.{bits, number, bitsOf, packed, inBytes}
-use Rattle.bits.proofs.Numbers.{length-bits, number-bits, number-lt, bits-of, number-append, bits-append}
+use Rattle.bits.specs.Bits.{bits, number, bitsOf, packed, changed, inBytes}
+use Rattle.bits.proofs.Numbers.{length-bits, number-bits, number-lt, number-append, bits-append}
 use Rattle.bits.proofs.Bytes.{length-bitsOf, bitsOf-append, packed-append}
 
 -- n bytes make a number of at most 8 n bits
@@ -57,7 +57,19 @@ spread-next (suc k) v xs p h =
 pub parts : (bs : List Bool) (r w : ℕ) → take r bs ++ (take w (drop r bs) ++ drop (r + w) bs) ≡ bs
 parts bs r w = rw (← drop-drop w r bs, take-append-drop w (drop r bs)) (take-append-drop r bs)
 
-pub number-parts : (p m q : List Bool) → number (p ++ (m ++ q)) ≡ (number p * 2 ^ length m + number m) * 2 ^ length q + number q
+-- with the field changed they are as many
+pub length-changed : (r w v : ℕ) (bs : List Bool) → r + w ≤ length bs → length (changed r w v bs) ≡ length bs
+length-changed r w v bs h =
+    rw (
+      length-append (take r bs) (bits w v ++ drop (r + w) bs),
+      length-append (bits w v) (drop (r + w) bs),
+      length-bits w v,
+      length-take,
+      length-drop,
+    )
+    (omega arith)
+
+number-parts : (p m q : List Bool) → number (p ++ (m ++ q)) ≡ (number p * 2 ^ length m + number m) * 2 ^ length q + number q
 number-parts p m q =
     rw (number-append p (m ++ q), number-append m q, length-append m q, pow-add 2 (length m) (length q)) (omega arith)
 
@@ -91,28 +103,8 @@ module _ (bs : List Bool) (r w k : ℕ) (h : length bs ≡ r + (w + k)) where
   ahead-is : number bs / 2 ^ k / 2 ^ w ≡ number (take r bs)
   ahead-is = rw upper (high (number (take r bs)) w mid-lt)
 
-  -- the same bits with the field replaced
-  abbrev pub changed : ℕ → List Bool
-  changed v = take r bs ++ (bits w v ++ drop (r + w) bs)
-
-  pub length-changed : (v : ℕ) → length (changed v) ≡ length bs
-  length-changed v =
-      rw (
-        length-append (take r bs) (bits w v ++ drop (r + w) bs),
-        length-append (bits w v) (drop (r + w) bs),
-        length-bits w v,
-        length-take,
-        length-drop,
-      )
-      (omega arith)
-
-  pub number-changed : (v : ℕ) → (number bs / 2 ^ k / 2 ^ w * 2 ^ w + v % 2 ^ w) * 2 ^ k + number bs % 2 ^ k ≡ number (changed v)
+  -- and in that of the same bits with the field changed
+  pub number-changed : (v : ℕ) → (number bs / 2 ^ k / 2 ^ w * 2 ^ w + v % 2 ^ w) * 2 ^ k + number bs % 2 ^ k ≡ number (changed r w v bs)
   number-changed v =
       rw (ahead-is, behind-is)
       (sym (number-parts (take r bs) (bits w v) (drop (r + w) bs) ∙ rw (length-bits w v, end-length, number-bits w v)))
-
-  pub changed-lt : (v : ℕ) → number (changed v) < 2 ^ length bs
-  changed-lt v = rw (length-changed v) at (number-lt (changed v))
-
-  pub changed-is : (v : ℕ) → bits (length bs) (number (changed v)) ≡ changed v
-  changed-is v = bits-of (length bs) (changed v) (length-changed v)

@@ -1,6 +1,6 @@
 pub mod Numbers
 pub mod Bytes
-pub mod Groups
+mod Groups
 pub mod Fields
 pub mod Xor
 pub mod Determined

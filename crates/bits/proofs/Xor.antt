@@ -11,6 +11,14 @@ use lib.Dec.{eqb}
 use lib.ListN.{length, getD, replicate}
 use Rattle.bits.specs.Bits.{_⊕_, _⊞_, odd, bits}
 
+-- two differences, paired the other way, for any operation that is associative and commutative
+interchange : {A : Type 0} (f : A → A → A) → ((a b c : A) → f (f a b) c ≡ f a (f b c)) → ((a b : A) → f a b ≡ f b a)
+    → (a b c d : A) → f (f a b) (f c d) ≡ f (f a c) (f b d)
+interchange {A} f assoc comm a b c d =
+    assoc a b (f c d)
+    ∙ ap (f a) (sym (assoc b c d) ∙ ap (λ (x : A). f x d) (comm b c) ∙ assoc c b d)
+    ∙ sym (assoc a c (f b d))
+
 -- ---- bits
 
 pub ⊕-false : (a : Bool) → a ⊕ false ≡ a
@@ -40,10 +48,7 @@ pub ⊕-cancel : (a b : Bool) → (a ⊕ b) ⊕ b ≡ a
 ⊕-cancel false false = refl
 
 pub ⊕-swap : (a b c d : Bool) → (a ⊕ b) ⊕ (c ⊕ d) ≡ (a ⊕ c) ⊕ (b ⊕ d)
-⊕-swap a b c d =
-    ⊕-assoc a b (c ⊕ d)
-    ∙ ap (λ (x : Bool). a ⊕ x) (sym (⊕-assoc b c d) ∙ ap (λ (x : Bool). x ⊕ d) (⊕-comm b c) ∙ ⊕-assoc c b d)
-    ∙ sym (⊕-assoc a c (b ⊕ d))
+⊕-swap = interchange _⊕_ ⊕-assoc ⊕-comm
 
 -- ---- lists of bits
 
@@ -66,12 +71,8 @@ unfolding _⊞_
 ⊞-assoc (x ∷ xs) (y ∷ ys) [] = refl
 ⊞-assoc (x ∷ xs) (y ∷ ys) (z ∷ zs) = ap₂ _∷_ (⊕-assoc x y z) (⊞-assoc xs ys zs)
 
--- two differences, paired the other way
 pub ⊞-swap : (ws xs ys zs : List Bool) → (ws ⊞ xs) ⊞ (ys ⊞ zs) ≡ (ws ⊞ ys) ⊞ (xs ⊞ zs)
-⊞-swap ws xs ys zs =
-    ⊞-assoc ws xs (ys ⊞ zs)
-    ∙ ap (λ (l : List Bool). ws ⊞ l) (sym (⊞-assoc xs ys zs) ∙ ap (λ (l : List Bool). l ⊞ zs) (⊞-comm xs ys) ∙ ⊞-assoc ys xs zs)
-    ∙ sym (⊞-assoc ws ys (xs ⊞ zs))
+⊞-swap = interchange _⊞_ ⊞-assoc ⊞-comm
 
 pub length-⊞ : (xs ys : List Bool) → length ys ≤ length xs → length (xs ⊞ ys) ≡ length xs
 unfolding _⊞_

@@ -51,10 +51,13 @@ packed (suc n) bs = number (take 8 bs) ∷ packed n (drop 8 bs)
 unfoldable pub field : ℕ → ℕ → List ℕ → ℕ
 field at width bytes = number (take width (drop at (bitsOf bytes)))
 
--- the bytes with that field replaced by the low `width` bits of v, and no other bit
+-- bits, of which `width` from bit `at` on are changed to the low bits of v, and no other
+abbrev pub changed : ℕ → ℕ → ℕ → List Bool → List Bool
+changed at width v bs = take at bs ++ (bits width v ++ drop (at + width) bs)
+
+-- the bytes with that field replaced by the low `width` bits of v
 unfoldable pub replaced : ℕ → ℕ → ℕ → List ℕ → List ℕ
-replaced at width v bytes =
-    packed (length bytes) (take at (bitsOf bytes) ++ (bits width v ++ drop (at + width) (bitsOf bytes)))
+replaced at width v bytes = packed (length bytes) (changed at width v (bitsOf bytes))
 
 -- a field has at most 32 bits and lies inside the bytes
 unfoldable pub isField : ℕ → ℕ → List ℕ → Bool

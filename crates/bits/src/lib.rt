@@ -4,9 +4,9 @@
 // A field touches at most five bytes. They are gathered into one number, the field is cut out of it or put into it, and
 // they are spread again.
 ghost use mathlib.Core.Path.{_≡_};
-ghost use Prim.Native.Nat.{_+_, _-_, _*_, _^_, _≤_, _<_};
+ghost use Prim.Native.Nat.{_^_, _≤_, _<_};
 ghost use lib.ListN.{length};
-ghost use Rattle.bits.specs.Located.{Located};
+ghost use Rattle.bits.specs.Located.{Located, Holds, lead};
 ghost use Rattle.bits.specs.Bits.{bitsOf, number, field, replaced, inBytes, fieldAnswer, replacedAnswer};
 
 // The bytes that a field touches, from first up to end, and how many of their bits stand behind the field.
@@ -72,8 +72,8 @@ fn locate(len: usize, at: usize, width: usize) -> Place
 
 // The field that has `rest` bits behind it.
 fn cut(group: &[u8], width: usize, rest: usize) -> u32
-    requires { ⌜ (length (now group) ≤ 5) × ((width ≤ 32) × (width + rest ≤ 8 * length (now group))) ⌝ }
-    ensures { λ r. ⌜ r ≡ field (8 * length (now (group .entry)) - (width + rest)) width (now (group .entry)) ⌝ }
+    requires { ⌜ Holds (now group) width rest ⌝ }
+    ensures { λ r. ⌜ r ≡ field (lead (now (group .entry)) width rest) width (now (group .entry)) ⌝ }
 {
     let span = power(width);
     let under = power(rest);
@@ -82,8 +82,8 @@ fn cut(group: &[u8], width: usize, rest: usize) -> u32
 
 // The same field replaced.
 fn put(group: &mut [u8], width: usize, rest: usize, value: u32)
-    requires { ⌜ (length (now group) ≤ 5) × ((width ≤ 32) × (width + rest ≤ 8 * length (now group))) ⌝ }
-    ensures { λ _. ⌜ now (group .exit) ≡ replaced (8 * length (now (group .entry)) - (width + rest)) width value (now (group .entry)) ⌝ }
+    requires { ⌜ Holds (now group) width rest ⌝ }
+    ensures { λ _. ⌜ now (group .exit) ≡ replaced (lead (now (group .entry)) width rest) width value (now (group .entry)) ⌝ }
 {
     let span = power(width);
     let under = power(rest);

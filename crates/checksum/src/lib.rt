@@ -4,9 +4,9 @@ ghost use mathlib.Core.Bool.{false};
 ghost use Rattle.bits.specs.Bits.{bits, number};
 ghost use Rattle.checksum.specs.Checksum.{checksum, stepped, divided};
 
-pub const POLYNOMIAL: u16 = 0x1021;
+const POLYNOMIAL: u16 = 0x1021;
 
-pub const START: u16 = 0xFFFF;
+const START: u16 = 0xFFFF;
 
 // The checksum of all the bytes.
 pub fn of(bytes: &[u8]) -> u16

@@ -1,12 +1,14 @@
 -- Laws of the scrambler over lent parts, each for both directions and every register: what callers of `scramble` and
 -- `unscramble` go by.
 -- Assumes nothing.
-use mathlib.Core.Path.{_≡_, refl, sym, ap, ap₂, _∙_}
-use mathlib.Core.Bool.{Bool, true, false, cond}
+use mathlib.Core.Path.{_≡_, refl, sym, ap, ap₂, _∙_, subst}
+use mathlib.Core.Bool.{Bool, true, false, _&&_, cond}
 use mathlib.Core.List.{List, [], _++_, reverse, reverse-reverse}
 use Prim.Native.Nat.{ℕ, _*_, _≤_, _<_}
 use native.Mathlib.Nat.{le-refl}
 use native.Mathlib.Omega.{arith}
+use lib.Dec.{T, leb, ltb, ltb→lt}
+use mir.Facts.{and-yes}
 use lib.ListN.{length, take, length-append, length-take, length-reverse}
 use lib.Seq.{getD-take, ext-getD}
 use Rattle.bits.specs.Bits.{_⊞_, bits, number, bitsOf, packed, Bytes}
@@ -14,7 +16,7 @@ use Rattle.bits.proofs.Numbers.{bits-of}
 use Rattle.bits.proofs.Bytes.{length-bitsOf, length-packed, bitsOf-append, packed-bitsOf, bitsOf-packed, packed-append, packed-bytes}
 use Rattle.scrambler.specs.declared.Direction.{Direction}
 use Rattle.scrambler.specs.declared.Register.{Register}
-use Rattle.scrambler.specs.Scrambler.{through, sentAfter, remembered, allowed, partThrough, registerThrough, partAnswer}
+use Rattle.scrambler.specs.Scrambler.{through, sentAfter, remembered, allowed, partThrough, registerThrough, partAnswer, registerAnswer}
 use Rattle.scrambler.proofs.Held.{length-remembered}
 use Rattle.scrambler.proofs.Laws.{Alike, opposite, inverse, length-through, length-sentAfter, through-append, sentAfter-append, through-take, through-difference, through-alike, sentAfter-alike}
 
@@ -68,14 +70,6 @@ part-inverse way r xs b =
     ∙ inverse way (r .near) (r .far) (start way r) (bitsOf xs))
     ∙ packed-bitsOf xs b
 
--- and so it is with what the two functions leave, whatever the distances
-pub answer-inverse : (way : Direction) (r : Register) (xs : List ℕ) → Bytes xs → partAnswer (opposite way) r (partAnswer way r xs) ≡ xs
-answer-inverse way r xs b = by (allowed r)
-  where
-    by : (ok : Bool) → cond ok (partThrough (opposite way) r (cond ok (partThrough way r xs) xs)) (cond ok (partThrough way r xs) xs) ≡ xs
-    by true = part-inverse way r xs b
-    by false = refl
-
 -- ---- in two parts
 
 take-alike : (n : ℕ) (g h : List Bool) → n ≤ length g → n ≤ length h → Alike n g h → take n g ≡ take n h
@@ -128,3 +122,44 @@ module _ (way : Direction) (r : Register) (some : 0 < r .far) (ordered : r .near
           ∙ take-alike (r .far) onward (sent way (next xs) ys) (rw joined at (long way r (xs ++ ys))) (long way (next xs) ys)
           (sentAfter-alike way (r .near) (r .far) (r .far) some ordered (le-refl (r .far)) (sent way r xs) (start way (next xs))
           (bitsOf ys) (handed-alike xs))
+
+-- ---- what the two functions leave, for every register
+
+allowed-distances : (r : Register) → T (allowed r) → (0 < r .far) × (r .near ≤ r .far)
+unfolding allowed
+allowed-distances r t =
+    let p = and-yes (leb 1 (r .near) && ltb (r .near) (r .far)) (leb (r .far) 32) t in
+    let h = ltb→lt (r .near) (r .far) (and-yes (leb 1 (r .near)) (ltb (r .near) (r .far)) (p .0) .1) in
+    (omega arith, omega arith)
+
+pub answer-inverse : (way : Direction) (r : Register) (xs : List ℕ) → Bytes xs → partAnswer (opposite way) r (partAnswer way r xs) ≡ xs
+answer-inverse way r xs b = by (allowed r)
+  where
+    by : (ok : Bool) → cond ok (partThrough (opposite way) r (cond ok (partThrough way r xs) xs)) (cond ok (partThrough way r xs) xs) ≡ xs
+    by true = part-inverse way r xs b
+    by false = refl
+
+pub answer-append : (way : Direction) (r : Register) (xs ys : List ℕ)
+    → partAnswer way r (xs ++ ys) ≡ partAnswer way r xs ++ partAnswer way (registerAnswer way r xs) ys
+unfolding allowed
+answer-append way r xs ys = by (allowed r) refl
+  where
+    by : (ok : Bool) → allowed r ≡ ok
+        → cond ok (partThrough way r (xs ++ ys)) (xs ++ ys)
+        ≡ cond ok (partThrough way r xs) xs ++ partAnswer way (cond ok (registerThrough way r xs) r) ys
+    by true e =
+        let d = allowed-distances r (subst T (sym e) tt) in
+        rw e (part-append way r (d .0) (d .1) xs ys)
+    by false e = rw e
+
+pub register-answer-append : (way : Direction) (r : Register) (xs ys : List ℕ)
+    → registerAnswer way r (xs ++ ys) ≡ registerAnswer way (registerAnswer way r xs) ys
+unfolding allowed
+register-answer-append way r xs ys = by (allowed r) refl
+  where
+    by : (ok : Bool) → allowed r ≡ ok
+        → cond ok (registerThrough way r (xs ++ ys)) r ≡ registerAnswer way (cond ok (registerThrough way r xs) r) ys
+    by true e =
+        let d = allowed-distances r (subst T (sym e) tt) in
+        rw e (register-append way r (d .0) (d .1) xs ys)
+    by false e = rw e

@@ -39,9 +39,19 @@ sentAfter way near far sent (b ∷ bs) = sentAfter way near far (onAir way b (cr
 abbrev pub remembered : ℕ → ℕ → List Bool
 remembered far n = reverse (bits far n)
 
--- restarted for each frame: 12 and 17 places, and the low 17 bits of 2C350000
+-- the satellites' distances, and their start: as many low bits of 2C350000
+abbrev pub NEAR : ℕ
+NEAR = 12
+
+abbrev pub FAR : ℕ
+FAR = 17
+
+abbrev pub START : ℕ
+START = 0x2C350000 % 2 ^ FAR
+
+-- restarted for each frame
 abbrev pub restarted : Register
-restarted = record { near = 12; far = 17; sent = 0x2C350000 % 2 ^ 17 }
+restarted = record { near = NEAR; far = FAR; sent = START }
 
 -- near at least 1, near below far, far at most 32
 unfoldable pub allowed : Register → Bool

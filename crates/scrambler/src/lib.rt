@@ -8,6 +8,13 @@ ghost use mathlib.Core.Path.{_≡_};
 ghost use Rattle.scrambler.specs.Scrambler.{restarted, Passes};
 ghost use Rattle.scrambler.specs.declared.Direction.the-variants.{Scramble, Unscramble};
 
+// The satellites' distances, x^17 + x^12 + 1, and the start before each body: a 1, then sixteen 0s.
+const NEAR: u32 = 12;
+
+const FAR: u32 = 17;
+
+const START: u32 = 0x2C35_0000 % (1 << FAR);
+
 pub enum Direction {
     Scramble,
     Unscramble,
@@ -27,9 +34,9 @@ impl Register {
         ensures { λ r. ⌜ r ≡ restarted ⌝ }
     {
         Register {
-            near: 12,
-            far: 17,
-            sent: 0x10000,
+            near: NEAR,
+            far: FAR,
+            sent: START,
         }
     }
 

@@ -2,14 +2,13 @@
 use crate::Direction;
 use crate::Register;
 ghost use mathlib.Core.Path.{_≡_};
-ghost use mathlib.Core.Bool.{Bool};
-ghost use mathlib.Core.List.{List};
-ghost use Prim.Native.Nat.{ℕ, _+_, _/_, _%_, _^_, _-_, _≤_, _<_};
+ghost use Prim.Native.Nat.{_-_, _/_, _%_, _^_, _≤_, _<_};
 ghost use Rattle.bits.specs.Bits.{odd, _⊕_};
 ghost use Rattle.scrambler.specs.Scrambler.{onAir, Passes};
 ghost use Rattle.scrambler.specs.Walk.{Taps, PassesByte};
 
-pub fn pass(register: Register, way: Direction, part: &mut [u8]) -> Register
+// The part goes through the register. Distances that are not allowed leave both as they are.
+pub(crate) fn pass(register: Register, way: Direction, part: &mut [u8]) -> Register
     ensures { λ r. ⌜ Passes way register (now (part .entry)) r (now (part .exit)) ⌝ }
 {
     let near = register.near;
@@ -44,6 +43,7 @@ struct Passed {
     byte: u8,
 }
 
+// A byte goes through, its highest bit first.
 fn pass_byte(way: Direction, near: u32, far: u32, sent: u32, byte: u8) -> Passed
     requires { ⌜ Taps near far ⌝ }
     ensures { λ r. ⌜ PassesByte way near far sent byte (r .sent) (r .byte) ⌝ }
@@ -55,6 +55,7 @@ fn pass_byte(way: Direction, near: u32, far: u32, sent: u32, byte: u8) -> Passed
         left -= 1;
         let bit = (byte as u32 >> left) % 2;
         let crossed = step(near, far, held, bit);
+        // of 32 sent bits the earliest is let go
         held = held % 0x8000_0000 * 2 + on_air(way, bit, crossed);
         out = out * 2 + crossed as u8;
     }
@@ -82,7 +83,7 @@ fn on_air(way: Direction, into: u32, out: u32) -> u32
     }
 }
 
-// The lowest `far` bits.
+// The lowest `far` bits. In 64 bits, since `far` can be 32.
 fn lowest(far: u32, sent: u32) -> u32
     requires { ⌜ far ≤ 32 ⌝ }
     ensures { λ r. ⌜ r ≡ sent % 2 ^ far ⌝ }

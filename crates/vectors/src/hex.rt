@@ -5,13 +5,13 @@ ghost use Prim.Native.Nat.{_≤_, _<_};
 ghost use lib.ListN.{length};
 
 // What a text holds: so many bytes, or, where `whole` is false, something that is no whole bytes or too many.
-pub struct Parsed {
+pub(crate) struct Parsed {
     pub whole: bool,
     pub count: usize,
 }
 
 // Puts the bytes at the start of `out`.
-pub fn parse(text: &[u8], out: &mut [u8]) -> Parsed
+pub(crate) fn parse(text: &[u8], out: &mut [u8]) -> Parsed
     ensures { λ r. ⌜ r .count ≤ length (now (out .exit)) ⌝ }
 {
     let mut digits: usize = 0;
@@ -63,7 +63,7 @@ fn value(c: u8) -> u8
     }
 }
 
-pub fn print(bytes: &[u8]) {
+pub(crate) fn print(bytes: &[u8]) {
     let mut i = 0;
     while i < bytes.len() {
         print_byte(bytes[i]);
@@ -83,7 +83,7 @@ fn digit(d: u8) -> u8
 }
 
 // A number as its `count` lowest bytes, at most four.
-pub fn print_number(n: u32, count: u32) {
+pub(crate) fn print_number(n: u32, count: u32) {
     if 3 < count {
         print_byte((n / 0x100_0000 % 256) as u8);
     }

@@ -3,10 +3,13 @@
 // they are.
 //
 //     checksum DATA                           = 7D58
-//     scramble NEAR FAR START DATA            = DATA REGISTER     (1, 1, 4 and any number of bytes)
+//     scramble NEAR FAR START DATA            = DATA REGISTER     (1, 1 and 4 bytes, then the data)
 //     unscramble NEAR FAR START DATA          = DATA REGISTER
-//     field START WIDTH DATA                  = VALUE             (2, 1 and any number of bytes)
-//     replace START WIDTH VALUE DATA          = DATA              (2, 1, 4 and any number of bytes)
+//     field START WIDTH DATA                  = VALUE             (2 and 1 bytes, then the data)
+//     replace START WIDTH VALUE DATA          = DATA              (2, 1 and 4 bytes, then the data)
+//
+// A line that is no question, or has more than 512 bytes of parameters and data, is answered '?'. Input past its first
+// 65,536 bytes is not read.
 mod hex;
 mod question;
 mod text;

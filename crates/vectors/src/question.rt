@@ -4,7 +4,7 @@ use crate::text;
 use libc::STDOUT_FILENO;
 use scrambler::Register;
 
-pub fn answer(line: &[u8]) {
+pub(crate) fn answer(line: &[u8]) {
     if line.len() == 0 {
         return;
     }
@@ -33,9 +33,9 @@ fn ask(word: &[u8], data: &mut [u8]) {
     if check::same(word, b"checksum") {
         hex::print_number(checksum::of(data) as u32, 2);
     } else if check::same(word, b"scramble") {
-        scramble(data);
+        pass(data, false);
     } else if check::same(word, b"unscramble") {
-        unscramble(data);
+        pass(data, true);
     } else if check::same(word, b"field") {
         field(data);
     } else if check::same(word, b"replace") {
@@ -58,22 +58,20 @@ fn register(data: &[u8]) -> Register {
     }
 }
 
-fn scramble(data: &mut [u8]) {
+// Through the register, one way or back.
+fn pass(data: &mut [u8], back: bool) {
     if data.len() < 6 {
         malformed();
         return;
     }
-    let after = register(data).scramble(&mut data[6..]);
-    print_part(data, after);
-}
-
-fn unscramble(data: &mut [u8]) {
-    if data.len() < 6 {
-        malformed();
-        return;
+    let before = register(data);
+    if back {
+        let after = before.unscramble(&mut data[6..]);
+        print_part(data, after);
+    } else {
+        let after = before.scramble(&mut data[6..]);
+        print_part(data, after);
     }
-    let after = register(data).unscramble(&mut data[6..]);
-    print_part(data, after);
 }
 
 fn print_part(data: &[u8], after: Register) {

@@ -1,12 +1,11 @@
 -- `bits::cut` meets its contract: a quotient and a remainder of the gathered number are the field.
 -- Assumes nothing.
-use Prim.Native.Nat.{_+_, _-_, _*_}
 use native.Mathlib.Nat.{mod-lt, le-trans}
 use native.Mathlib.Omega.{arith}
-use lib.ListN.{length}
 use lib.Pow.{pow-pos, pow-mono}
 use denote.Ref.{now}
 use Rattle.bits.specs.Bits.{bitsOf, field}
+use Rattle.bits.specs.Located.{lead}
 use Rattle.bits.proofs.Bytes.{length-bitsOf}
 use Rattle.bits.proofs.Groups.{field-is}
 use borrow.Author.Needs.{needs}
@@ -31,7 +30,7 @@ rem-result c = search needs
 cast-result : tie.Need-cast-result
 cast-result c =
     let a = c .before .before .before .before .args in
-    let narrow = c .before .before .before .before .pre .1 .0 in
+    let narrow = c .before .before .before .before .pre .narrow in
     record { fits = rw (c .before .before .power .ensures .0) (le-trans (mod-lt _ (pow-pos (a .width))) (pow-mono narrow)) }
 
 returns : tie.Need-returns
@@ -40,7 +39,7 @@ returns c =
     let a = c .before .before .before .before .args in
     let g = bitsOf (now (a .group)) in
     rw (c .gather .ensures, c .before .power2 .ensures .0, c .before .before .power .ensures .0)
-    (field-is g (8 * length (now (a .group)) - (a .width + a .rest)) (a .width) (a .rest) (rw length-bitsOf (omega arith)))
+    (field-is g (lead (now (a .group)) (a .width) (a .rest)) (a .width) (a .rest) (rw length-bitsOf (omega arith)))
 
 pub cut-spec : {M : Type 1} → statement M
 cut-spec =

@@ -1,19 +1,21 @@
 -- `bits::put` meets its contract: the sum that is spread is the number of the same bits with the field replaced, so no
 -- part of it passes 2^40.
 -- Assumes nothing.
-use mathlib.Core.Path.{_≡_, sym, _∙_, ap}
+use mathlib.Core.Path.{_≡_, _∙_, ap}
 use mathlib.Core.Bool.{Bool}
 use mathlib.Core.List.{List}
-use Prim.Native.Nat.{ℕ, _+_, _-_, _*_, _/_, _%_, _^_, _<_, _≤_}
+use Prim.Native.Nat.{ℕ, _+_, _*_, _/_, _%_, _^_, _<_, _≤_}
 use native.Mathlib.Nat.{le-trans, mul-le-mul-left, mul-one}
 use native.Mathlib.Omega.{arith}
 use borrow.Author.Needs.{needs}
 use lib.ListN.{length}
 use lib.Pow.{pow-pos, pow-mono}
 use denote.Ref.{now}
-use Rattle.bits.specs.Bits.{bits, number, bitsOf, packed, replaced, inBytes}
+use Rattle.bits.specs.Bits.{number, bitsOf, packed, changed, replaced, inBytes}
+use Rattle.bits.specs.Located.{Holds, lead}
+use Rattle.bits.proofs.Numbers.{number-lt, bits-of}
 use Rattle.bits.proofs.Bytes.{length-bitsOf}
-use Rattle.bits.proofs.Groups.{changed, number-changed, changed-lt, changed-is}
+use Rattle.bits.proofs.Groups.{length-changed, number-changed}
 use Rattle.bits.proofs.put.Statement.{statement}
 use Rattle.bits.proofs.put.Tie as tie
 
@@ -39,31 +41,32 @@ record Sum (xs : List ℕ) (w k v N S U : ℕ) : Type 0 where
   second : N / U / S * S + v % S < 2 ^ 64
   third : (N / U / S * S + v % S) * U < 2 ^ 64
   whole : (N / U / S * S + v % S) * U + N % U < 2 ^ 64
-  spread : inBytes (length xs) ((N / U / S * S + v % S) * U + N % U) ≡ replaced (8 * length xs - (w + k)) w v xs
+  spread : inBytes (length xs) ((N / U / S * S + v % S) * U + N % U) ≡ replaced (lead xs w k) w v xs
 
-module _ (xs : List ℕ) (w k v : ℕ) (asked : (length xs ≤ 5) × ((w ≤ 32) × (w + k ≤ 8 * length xs))) where
-  abbrev lead : ℕ
-  lead = 8 * length xs - (w + k)
+module _ (xs : List ℕ) (w k v : ℕ) (asked : Holds xs w k) where
+  abbrev ahead : ℕ
+  ahead = lead xs w k
 
-  laid : length (bitsOf xs) ≡ lead + (w + k)
+  laid : length (bitsOf xs) ≡ ahead + (w + k)
   laid = rw length-bitsOf (omega arith)
 
   abbrev new : List Bool
-  new = changed (bitsOf xs) lead w k laid v
+  new = changed ahead w v (bitsOf xs)
+
+  new-length : length new ≡ length (bitsOf xs)
+  new-length = length-changed ahead w v (bitsOf xs) (omega (arith, laid))
 
   new-lt : number new < 2 ^ 64
-  new-lt = le-trans (changed-lt (bitsOf xs) lead w k laid v) (pow-mono {j = 64} (rw length-bitsOf (omega arith)))
+  new-lt = le-trans (number-lt new) (pow-mono {j = 64} (rw (new-length, length-bitsOf xs) (omega arith)))
 
-  new-spread : inBytes (length xs) (number new) ≡ replaced lead w v xs
+  new-spread : inBytes (length xs) (number new) ≡ replaced ahead w v xs
   unfolding replaced
-  new-spread =
-      ap (packed (length xs))
-      (ap (λ (n : ℕ). bits n (number new)) (sym (length-bitsOf xs)) ∙ changed-is (bitsOf xs) lead w k laid v)
+  new-spread = ap (packed (length xs)) (bits-of (8 * length xs) new (new-length ∙ length-bitsOf xs))
 
   sum : (N S U : ℕ) → N ≡ number (bitsOf xs) → S ≡ 2 ^ w → U ≡ 2 ^ k → Sum xs w k v N S U
   sum N S U n s u =
       let front : ℕ = N / U / S * S + v % S in
-      let is : front * U + N % U ≡ number new = rw (n, s, u) (number-changed (bitsOf xs) lead w k laid v) in
+      let is : front * U + N % U ≡ number new = rw (n, s, u) (number-changed (bitsOf xs) ahead w k laid v) in
       let lt : front * U + N % U < 2 ^ 64 = rw is new-lt in
       let positive : 0 < U = rw u (pow-pos k) in
       let grown : front ≤ front * U = rw mul-one at (mul-le-mul-left front positive) in

@@ -5,7 +5,7 @@ use lib.ListN.{length}
 use denote.Ref.{now}
 use Rattle.bits.specs.Bits.{field}
 use Rattle.bits.specs.Located.{Touches}
-use Rattle.bits.proofs.Places.{is-field, asked, field-touched}
+use Rattle.bits.proofs.Places.{is-inside, asked, field-touched}
 use borrow.Author.Needs.{needs}
 use Rattle.bits.proofs.read_field.Statement.{statement}
 use Rattle.bits.proofs.read_field.Tie as tie
@@ -37,14 +37,14 @@ returns : tie.Need-returns
 returns c =
     let a = c .before .before .before .before .before .args in
     let l = c .before .before .before .locate in
-    let inside = sym (is-field (a .at) (a .width) (now (a .bytes)) (l .result) (l .ensures)) ∙ c .before .before .if1 .taken in
+    let inside = sym (is-inside (a .at) (a .width) (now (a .bytes)) (l .result) (l .ensures)) ∙ c .before .before .if1 .taken in
     c .cut .ensures ∙ field-touched (a .at) (a .width) (now (a .bytes)) (l .result) (touches (c .before .before)) ∙ rw inside
 
 returns-2 : tie.Need-returns-2
 returns-2 c =
     let a = c .before .before .before .args in
     let l = c .before .locate in
-    rw (sym (is-field (a .at) (a .width) (now (a .bytes)) (l .result) (l .ensures)) ∙ c .if1 .left)
+    rw (sym (is-inside (a .at) (a .width) (now (a .bytes)) (l .result) (l .ensures)) ∙ c .if1 .left)
 
 pub read-field-spec : {M : Type 1} → statement M
 read-field-spec =

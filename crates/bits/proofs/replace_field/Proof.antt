@@ -1,12 +1,10 @@
 -- `bits::replace_field` meets its contract: the field is replaced in the bytes it touches, and the others stay.
 -- Assumes nothing.
-use mathlib.Core.Path.{sym, _∙_, ap}
-use mathlib.Core.List.{List, _++_}
-use Prim.Native.Nat.{ℕ, _-_}
-use lib.ListN.{length, take, drop}
+use mathlib.Core.Path.{sym, _∙_}
+use lib.ListN.{length}
 use denote.Ref.{now}
 use Rattle.bits.specs.Located.{Touches}
-use Rattle.bits.proofs.Places.{is-field, asked, replaced-touched}
+use Rattle.bits.proofs.Places.{is-inside, asked, replaced-touched}
 use borrow.Author.Needs.{needs}
 use Rattle.bits.proofs.replace_field.Statement.{statement}
 use Rattle.bits.proofs.replace_field.Tie as tie
@@ -40,20 +38,17 @@ returns : tie.Need-returns
 returns c =
     let a = c .before .before .before .before .before .before .before .args in
     let l = c .before .before .before .before .before .locate in
-    let inside = sym (is-field (a .at) (a .width) (now (a .bytes)) (l .result) (l .ensures)) ∙ c .before .before .before .before .if1 .taken in
-    let s = now (a .bytes) in
-    let first = l .result .first in
-    let count = l .result .end - first in
-    ap (λ (ys : List ℕ). take first s ++ (ys ++ drop count (drop first s))) (c .before .before .put .ensures)
-    ∙ replaced-touched (a .at) (a .width) s (l .result) (touches (c .before .before .before .before))
-    (λ i. c .before .before .before .before .before .before .slice-known .given i .fits) (a .value)
+    let inside = sym (is-inside (a .at) (a .width) (now (a .bytes)) (l .result) (l .ensures)) ∙ c .before .before .before .before .if1 .taken in
+    let put = c .before .before .put in
+    replaced-touched (a .at) (a .width) (now (a .bytes)) (l .result) (touches (c .before .before .before .before))
+    (λ i. c .before .before .before .before .before .before .slice-known .given i .fits) (a .value) (put .last .0) (put .ensures)
     ∙ rw inside
 
 returns-2 : tie.Need-returns-2
 returns-2 c =
     let a = c .before .before .before .args in
     let l = c .before .locate in
-    rw (sym (is-field (a .at) (a .width) (now (a .bytes)) (l .result) (l .ensures)) ∙ c .if1 .left)
+    rw (sym (is-inside (a .at) (a .width) (now (a .bytes)) (l .result) (l .ensures)) ∙ c .if1 .left)
 
 pub replace-field-spec : {M : Type 1} → statement M
 replace-field-spec =

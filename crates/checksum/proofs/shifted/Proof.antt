@@ -25,12 +25,12 @@ high r h k = let e : r / 32768 ≡ 1 = omega arith in rw e
 returns : tie.Need-returns
 returns c =
     let r = c .before .args .register in
-    sym (xor-zero-r (r % 32768 * 2)) ∙ shifted-is r false (low r (c .if1 .taken))
+    sym (xor-zero-r (r % 32768 * 2)) ∙ shifted-is r false (low r (omega arith))
 
 returns-2 : tie.Need-returns-2
 returns-2 c =
     let r = c .before .args .register in
-    shifted-is r true (high r (c .if1 .left) (c .before .fits .register .fits))
+    shifted-is r true (high r (omega arith) (omega arith))
 
 pub shifted-spec : {M : Type 1} → statement M
 shifted-spec = tie.close (tie.spec mul-moved returns returns-2)

@@ -33,7 +33,7 @@ returns c =
     let a = c .args in
     let n = a .sent / 2 ^ (a .near - 1) in
     let f = a .sent / 2 ^ (a .far - 1) in (
-      mod-lt (a .bit + n % 2 + f % 2) (zero-lt-suc 1),
+      mod-lt _ (zero-lt-suc 1),
       odd-mod (a .bit + n % 2 + f % 2)
           ∙ odd-add (a .bit + n % 2) (f % 2)
           ∙ ap₂ _⊕_ (odd-add (a .bit) (n % 2) ∙ ap (λ (x : Bool). odd (a .bit) ⊕ x) (odd-mod n)) (odd-mod f),
