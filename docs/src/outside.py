@@ -1,11 +1,12 @@
 #!/usr/bin/env python3
-"""Holds the stored answers about checksum and scrambler to programs that are not ours.
+"""Holds the stored answers to programs that are not ours, and those about fields to another method.
 
     python3 docs/src/outside.py < crates/vectors/stdout
 
 Checksums are compared with Python's own binascii.crc_hqx. Scrambled and unscrambled parts with GNU Radio's
 digital.scrambler_bb and descrambler_bb where that is installed (Debian: apt-get install gnuradio, and Debian's own
-python3); where it is not, that is said and they are left out. Not a part of the gate.
+python3); where it is not, that is said and they are left out. Fields have no outside program: they are compared with
+arithmetic on one whole number. Not a part of the gate.
 
 x^17 + x^12 + 1 is the G3RUH scrambler. GNU Radio's register shifts its earliest bit out at the bottom, so its seed is
 the start with its bits in reverse order, its mask has a bit for each distance counted from there, and what it puts out
@@ -44,8 +45,31 @@ def through_gnuradio(word, near, far, start, data):
     return packed(run(digital.descrambler_bb(mask, seed, length), bits_of(data)))
 
 
+def field(at, width, data):
+    """The data as one number, how far the field is shifted up in it, and its mask; None where there is no field."""
+    shift = 8 * len(data) - at - width
+    if not 1 <= width <= 32 or shift < 0:
+        return None
+    return int.from_bytes(data, "big"), shift, (1 << width) - 1
+
+
+def by_arithmetic(word, data):
+    at, width = int.from_bytes(data[:2], "big"), data[2]
+    if word == "field":
+        found = field(at, width, data[3:])
+        return f"{found[0] >> found[1] & found[2] if found else 0:08X}"
+    value, bytes_ = int.from_bytes(data[3:7], "big"), data[7:]
+    found = field(at, width, bytes_)
+    if found:
+        number, shift, mask = found
+        bytes_ = (number & ~(mask << shift) | (value & mask) << shift).to_bytes(len(bytes_), "big")
+    return bytes_.hex().upper()
+
+
 def outside(word, data):
-    """What a program that is not ours answers, or None where there is none to ask."""
+    """What the other program or method answers, or None where there is none to ask."""
+    if word in ("field", "replace"):
+        return by_arithmetic(word, data)
     if word == "checksum":
         return f"{binascii.crc_hqx(data, 0xFFFF):04X}"
     if word in ("scramble", "unscramble") and gr is not None:
