@@ -1,0 +1,16 @@
+-- Any two results that a public function's contract allows for one input are equal. `Post` is the contract's own text, as
+-- the check reads it.
+-- Assumes nothing.
+use mathlib.Core.Path.{_≡_, sym, _∙_}
+use Rattle.layouts.proofs.of.Reads as layout
+use Rattle.layouts.proofs.Layout.width.Reads as width
+use Rattle.layouts.proofs.Layout.start.Reads as start
+
+pub of-determined : (κs a r r′ s s′ : _) → layout.Post κs a r s → layout.Post κs a r′ s′ → r ≡ r′
+of-determined κs a r r′ s s′ p q = p ∙ sym q
+
+pub width-determined : (κs a r r′ s s′ : _) → width.Post κs a r s → width.Post κs a r′ s′ → r ≡ r′
+width-determined κs a r r′ s s′ p q = p ∙ sym q
+
+pub start-determined : (κs a r r′ s s′ : _) → start.Post κs a r s → start.Post κs a r′ s′ → r ≡ r′
+start-determined κs a r r′ s s′ p q = p ∙ sym q

@@ -1,0 +1,7 @@
+pub mod Entries
+pub mod Places
+pub mod Determined
+mod Told
+mod Kept
+mod Unrolled
+mod Found

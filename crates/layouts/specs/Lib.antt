@@ -1,0 +1,3 @@
+pub mod Layouts
+pub mod Rules
+pub mod Rows

@@ -1,0 +1,31 @@
+-- How the code keeps the table: a row is its type, its size, and then pairs, so many fields of so many bits; and there are
+-- six rows to a satellite, those that it does not need being empty.
+use Prim.Native.Nat.{ℕ, _-_}
+use mathlib.Core.List.{List, [], _∷_, _++_}
+use lib.ListN.{length, getD, drop, replicate}
+use Rattle.satellites.specs.declared.Satellite.{Satellite}
+use Rattle.layouts.specs.declared.widths.Widths.{Widths}
+use Rattle.layouts.specs.Layouts.{Entry, entriesOf, nothing, _of_, laid}
+
+-- the widths that pairs stand for
+unfoldable pub unrolled : List ℕ → List ℕ
+unrolled [] = []
+unrolled (count ∷ []) = []
+unrolled (count ∷ width ∷ pairs) = count of width ++ unrolled pairs
+
+abbrev pub Row : Type 0
+Row = List ℕ
+
+abbrev pub says : Row → Entry
+says row = record { frameType = getD row 0 0; widths = unrolled (drop 2 row); size = getD row 1 0 }
+
+abbrev pub kept : Satellite → List Entry
+kept s = entriesOf s ++ replicate (6 - length (entriesOf s)) nothing
+
+-- the rows at a satellite's place
+unfoldable pub rowsAt : List (List Row) → ℕ → List Row
+rowsAt rows n = getD rows n []
+
+-- widths as the code has them
+abbrev pub widthsOf : List ℕ → Widths
+widthsOf widths = record { fields = length widths; bits = laid widths }

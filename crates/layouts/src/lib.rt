@@ -1,0 +1,75 @@
+// Layouts: the fields of each type that a satellite carries (01, "The field tables"; FORMAT 6).
+mod table;
+mod widths;
+
+ghost use mathlib.Core.Path.{_≡_};
+ghost use Rattle.layouts.specs.Layouts.{layoutOf, widthAt, startAt};
+use satellites::Satellite;
+
+// As many fields as the longest row has.
+pub const MOST_FIELDS: usize = 95;
+
+// What a satellite's type is made of: how many fields, their widths in bits, the bytes from type byte to checksum, and the
+// bytes of the whole frame. It is fetched once and then walked. A type that is not carried has none of these.
+pub struct Layout {
+    pub carried: bool,
+    pub fields: usize,
+    pub size: usize,
+    pub frame: usize,
+    pub widths: [u8; MOST_FIELDS],
+}
+
+// The layout of a satellite's type.
+pub fn of(satellite: Satellite, ty: u32) -> Layout
+    ensures { λ r. ⌜ r ≡ layoutOf satellite ty ⌝ }
+{
+    let row = table::row_of(satellite, ty);
+    let size = row[1] as usize;
+    if size == 0 {
+        return Layout {
+            carried: false,
+            fields: 0,
+            size: 0,
+            frame: 0,
+            widths: [0; MOST_FIELDS],
+        };
+    }
+    let all = widths::unroll(row);
+    let bits = all.bits;
+    Layout {
+        carried: true,
+        fields: all.fields,
+        size,
+        frame: satellite.type_byte_at() + size,
+        widths: bits,
+    }
+}
+
+impl Layout {
+    // The width of a field in bits; 0 where there is no field of that number.
+    pub fn width(self, field: usize) -> usize
+        ensures { λ r. ⌜ r ≡ widthAt (self .widths) field ⌝ }
+    {
+        if field < MOST_FIELDS {
+            self.widths[field] as usize
+        } else {
+            0
+        }
+    }
+
+    // The bit of the body at which a field starts; the body's end where there is no field of that number.
+    pub fn start(self, field: usize) -> usize
+        ensures { λ r. ⌜ r ≡ startAt (self .widths) field ⌝ }
+    {
+        let mut bit: usize = 0;
+        let mut k: usize = 0;
+        while k < field {
+            if k == MOST_FIELDS {
+                return bit;
+            }
+            bit += self.widths[k] as usize;
+            k += 1;
+        }
+        bit
+    }
+}

@@ -1,0 +1,8 @@
+-- Any two results that the public function's contract allows for one input are equal. `Post` is the contract's own text, as
+-- the check reads it.
+-- Assumes nothing.
+use mathlib.Core.Path.{_≡_, sym, _∙_}
+use Rattle.names.proofs.of.Reads as name
+
+pub of-determined : (κs a r r′ s s′ : _) → name.Post κs a r s → name.Post κs a r′ s′ → r ≡ r′
+of-determined κs a r r′ s s′ p q = p ∙ sym q

@@ -1,0 +1,7 @@
+pub mod Along
+pub mod Arrays
+pub mod Counted
+pub mod Determined
+pub mod Words
+pub mod Worked
+pub mod Written

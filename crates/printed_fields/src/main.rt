@@ -1,0 +1,52 @@
+// Every field of every satellite and type (01, "The field tables"; FORMAT 6): a line for each, with satellite number, type,
+// field number, first bit in the body, width in bits, and name.
+use layouts::Layout;
+use libc::STDOUT_FILENO;
+use names::Name;
+use satellites::Known;
+use satellites::Satellite;
+
+// Types are four bits.
+const TYPES: u32 = 16;
+
+fn main() {
+    for number in 0..Satellite::COUNT {
+        if let Known::Is(satellite) = Satellite::from_number(number) {
+            print_types(satellite);
+        }
+    }
+}
+
+fn print_types(satellite: Satellite) {
+    for ty in 0..TYPES {
+        print_fields(satellite, ty, layouts::of(satellite, ty));
+    }
+}
+
+fn print_fields(satellite: Satellite, ty: u32, layout: Layout) {
+    for field in 0..layout.fields {
+        print_number(satellite.number() as u64);
+        print_number(ty as u64);
+        print_number(field as u64);
+        print_number(layout.start(field) as u64);
+        print_number(layout.width(field) as u64);
+        print_name(names::of(satellite, ty, field));
+    }
+}
+
+fn print_number(n: u64) {
+    io::print_decimal(STDOUT_FILENO, n);
+    io::write_all(STDOUT_FILENO, b" ");
+}
+
+fn print_name(name: Name) {
+    let text = name.text;
+    print_front(&text, name.letters);
+    io::write_all(STDOUT_FILENO, b"\n");
+}
+
+fn print_front(text: &[u8], letters: usize) {
+    if letters <= text.len() {
+        io::write_all(STDOUT_FILENO, &text[0..letters]);
+    }
+}

@@ -1,0 +1,28 @@
+-- Any two results that a public function's contract allows for one input are equal. `Post` is the contract's own text, as
+-- the check reads it.
+-- Assumes nothing.
+use mathlib.Core.Path.{_≡_, sym, _∙_}
+use Rattle.satellites.proofs.Satellite.from_number.Reads as from-number
+use Rattle.satellites.proofs.Satellite.number.Reads as number
+use Rattle.satellites.proofs.Satellite.address.Reads as address
+use Rattle.satellites.proofs.Satellite.training.Reads as training
+use Rattle.satellites.proofs.Satellite.has_size_byte.Reads as has-size-byte
+use Rattle.satellites.proofs.Satellite.type_byte_at.Reads as type-byte-at
+
+pub from-number-determined : (κs a r r′ s s′ : _) → from-number.Post κs a r s → from-number.Post κs a r′ s′ → r ≡ r′
+from-number-determined κs a r r′ s s′ p q = p ∙ sym q
+
+pub number-determined : (κs a r r′ s s′ : _) → number.Post κs a r s → number.Post κs a r′ s′ → r ≡ r′
+number-determined κs a r r′ s s′ p q = p ∙ sym q
+
+pub address-determined : (κs a r r′ s s′ : _) → address.Post κs a r s → address.Post κs a r′ s′ → r ≡ r′
+address-determined κs a r r′ s s′ p q = p ∙ sym q
+
+pub training-determined : (κs a r r′ s s′ : _) → training.Post κs a r s → training.Post κs a r′ s′ → r ≡ r′
+training-determined κs a r r′ s s′ p q = p ∙ sym q
+
+pub has-size-byte-determined : (κs a r r′ s s′ : _) → has-size-byte.Post κs a r s → has-size-byte.Post κs a r′ s′ → r ≡ r′
+has-size-byte-determined κs a r r′ s s′ p q = p ∙ sym q
+
+pub type-byte-at-determined : (κs a r r′ s s′ : _) → type-byte-at.Post κs a r s → type-byte-at.Post κs a r′ s′ → r ≡ r′
+type-byte-at-determined κs a r r′ s s′ p q = p ∙ sym q
