@@ -31,7 +31,7 @@ impl Satellite {
     pub const LONG_TRAINING: usize = 16;
 
     // Bytes of sync, the same for all.
-    pub const SYNC: usize = 2;
+    pub const SYNC_BYTES: usize = 2;
 
     // The satellite of that number. The number is not cut down first: 259 is not 3.
     pub fn from_number(number: u32) -> Known
@@ -112,7 +112,7 @@ impl Satellite {
     pub fn type_byte_at(self) -> usize
         ensures { λ r. ⌜ r ≡ typeByteAt self ⌝ }
     {
-        let clear = self.training() + Satellite::SYNC;
+        let clear = self.training() + Satellite::SYNC_BYTES;
         if self.has_size_byte() {
             clear + 1
         } else {
