@@ -16,8 +16,7 @@ use Rattle.layouts.specs.Layouts.{table, counted, among, carriedBy, found, entr
 use Rattle.layouts.specs.Rules.{every}
 use Rattle.layouts.proofs.Entries.{each, no-entry}
 use Rattle.names.specs.Names.{text, index, arrayOf, gridOf, mostLetters, written}
-use Rattle.names.specs.Fields.{sensorsWith, temperatureNames, tempStatsNames, sunsensorNames, messageNames, deployNames}
-use Rattle.names.specs.Fields.{gameNames, experimentNames, ephemerisWith, ephemerisNames, namesOf, nameOf}
+use Rattle.names.specs.Fields.{namesOf, nameOf}
 
 -- what passes for all of some numbers passes for each that is among them
 passes : (test : ℕ → Bool) (ns : List ℕ) (t : ℕ) → T (every test ns) → among t ns ≡ true → T (test t)
@@ -37,8 +36,7 @@ abbrev asMany : Satellite → ℕ → Bool
 asMany s t = eqb (length (namesOf s t)) (length (entryOf s t .widths))
 
 all-as-many : (s : Satellite) → T (every (asMany s) (typesOf s))
-unfolding every table counted among carriedBy found text index arrayOf gridOf sensorsWith temperatureNames tempStatsNames
-    sunsensorNames messageNames deployNames gameNames experimentNames ephemerisWith ephemerisNames
+unfolding every table counted among carriedBy found text index arrayOf gridOf
 all-as-many HadesD = tt
 all-as-many HadesIcm = tt
 all-as-many MariaG = tt
@@ -60,8 +58,7 @@ abbrev fits : List ℕ → Bool
 fits name = leb 1 (length name) && leb (length name) mostLetters
 
 all-fit : (s : Satellite) → T (every (λ t. every fits (namesOf s t)) (typesOf s))
-unfolding every table counted among carriedBy text index arrayOf gridOf sensorsWith temperatureNames tempStatsNames
-    sunsensorNames messageNames deployNames gameNames experimentNames ephemerisWith ephemerisNames
+unfolding every table counted among carriedBy text index arrayOf gridOf
 all-fit HadesD = tt
 all-fit HadesIcm = tt
 all-fit MariaG = tt

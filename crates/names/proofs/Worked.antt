@@ -5,8 +5,7 @@ use Rattle.names.specs.Names.{text, padded, written, index, arrayOf, gri
 use Rattle.satellites.specs.declared.Satellite.the-variants.{HadesD, HadesIcm, MariaG, Unne1, HadesR, Unne1b, HadesSa}
 use Rattle.layouts.specs.Layouts.{table, counted, among, carriedBy}
 use Rattle.names.specs.Words.{wordsOf}
-use Rattle.names.specs.Fields.{sensorsWith, tempStatsNames, sunsensorNames, messageNames}
-use Rattle.names.specs.Fields.{experimentNames, ephemerisWith, ephemerisNames, nameOf}
+use Rattle.names.specs.Fields.{nameOf}
 
 -- a string is its characters' codes
 pub text-is : text "td" ≡ 116 ∷ 100 ∷ []
@@ -40,38 +39,38 @@ words-are = refl
 
 -- "type 5 field 16 is maxtpeps on 1 to 4 and maxteps on 5 and 6 (field 15 of 0 is maxteps)"
 pub maximum-of-document-1 : nameOf HadesD 5 15 ≡ written (text "maxteps")
-unfolding table counted among carriedBy text sensorsWith tempStatsNames
+unfolding table counted among carriedBy text
 maximum-of-document-1 = refl
 
 pub maximum-of-document-2 : nameOf HadesIcm 5 16 ≡ written (text "maxtpeps")
-unfolding table counted among carriedBy text sensorsWith tempStatsNames
+unfolding table counted among carriedBy text
 maximum-of-document-2 = refl
 
 pub maximum-of-document-4 : nameOf Unne1b 5 16 ≡ written (text "maxteps")
-unfolding table counted among carriedBy text sensorsWith tempStatsNames
+unfolding table counted among carriedBy text
 maximum-of-document-4 = refl
 
 -- "type 12 field 6 is tle.xnnd6o on 1 to 4 and tle.xndd6o on 5 and 6"
 pub element-of-document-2 : nameOf HadesR 12 6 ≡ written (text "tle.xnnd6o")
-unfolding table counted among carriedBy text ephemerisWith ephemerisNames
+unfolding table counted among carriedBy text
 element-of-document-2 = refl
 
 pub element-of-document-0 : nameOf HadesSa 12 6 ≡ written (text "tle.xndd6o")
-unfolding table counted among carriedBy text ephemerisWith ephemerisNames
+unfolding table counted among carriedBy text
 element-of-document-0 = refl
 
 -- the last voltage of type 6, and the last character of type 7
 pub last-voltage-is : nameOf Unne1 6 53 ≡ written (text "v[7][5]")
-unfolding table counted among carriedBy text index arrayOf gridOf sunsensorNames
+unfolding table counted among carriedBy text index arrayOf gridOf
 last-voltage-is = refl
 
 pub last-character-is : nameOf HadesIcm 7 94 ≡ written (text "data[92]")
-unfolding table counted among carriedBy text index arrayOf messageNames
+unfolding table counted among carriedBy text index arrayOf
 last-character-is = refl
 
 -- behind the last field, and on a type that is not carried, the name is empty
 pub no-field-is : nameOf MariaG 11 3 ≡ written []
-unfolding table counted among carriedBy experimentNames
+unfolding table counted among carriedBy
 no-field-is = refl
 
 pub not-carried-is : nameOf HadesD 6 0 ≡ written []

@@ -23,7 +23,7 @@ documentOf Unne1b = D004
 documentOf HadesSa = D000
 
 -- panels A to E, EPS, TX, TX2, RX, CPU, where EPS has that name
-unfoldable pub sensorsWith : List ℕ → List (List ℕ)
+abbrev pub sensorsWith : List ℕ → List (List ℕ)
 sensorsWith eps =
     text "tpa" ∷ text "tpb" ∷ text "tpc" ∷ text "tpd" ∷ text "tpe" ∷ eps ∷ text "ttx" ∷ text "ttx2" ∷ text "trx" ∷ text "tcpu" ∷ []
 
@@ -31,29 +31,29 @@ abbrev pub sensors : List (List ℕ)
 sensors = sensorsWith (text "teps")
 
 -- type 2, Temperature
-unfoldable pub temperatureNames : Document → List (List ℕ)
+abbrev pub temperatureNames : Document → List (List ℕ)
 temperatureNames D000 = text "sclock" ∷ sensors
 temperatureNames D001 = sensors
 temperatureNames D002 = text "sclock" ∷ sensors
 temperatureNames D004 = text "sclock" ∷ sensors
 
 -- type 5, Temp stats: minima, maxima, and in 001 means
-unfoldable pub tempStatsNames : Document → List (List ℕ)
+abbrev pub tempStatsNames : Document → List (List ℕ)
 tempStatsNames D000 = text "sclock" ∷ prefixed (text "min") sensors ++ prefixed (text "max") sensors
 tempStatsNames D001 = prefixed (text "min") sensors ++ (prefixed (text "max") sensors ++ prefixed (text "med") sensors)
 tempStatsNames D002 = text "sclock" ∷ prefixed (text "min") sensors ++ prefixed (text "max") (sensorsWith (text "tpeps"))
 tempStatsNames D004 = text "sclock" ∷ prefixed (text "min") sensors ++ prefixed (text "max") sensors
 
 -- type 6, Sunsensors
-unfoldable pub sunsensorNames : List (List ℕ)
+abbrev pub sunsensorNames : List (List ℕ)
 sunsensorNames = arrayOf (text "td") 6 ++ (gridOf (text "v") 8 6 ++ (arrayOf (text "p") 8 ++ arrayOf (text "err") 8))
 
 -- type 7, ICM game messages
-unfoldable pub messageNames : List (List ℕ)
+abbrev pub messageNames : List (List ℕ)
 messageNames = text "sclock" ∷ text "message_number" ∷ arrayOf (text "data") 93
 
 -- type 8, Deploy
-unfoldable pub deployNames : List (List ℕ)
+abbrev pub deployNames : List (List ℕ)
 deployNames =
     text "v1oc" ∷ text "v1" ∷ text "i1" ∷ text "i1pk" ∷ text "r1" ∷ text "v2oc" ∷ text "v2" ∷ text "r2"
     ∷ text "t0" ∷ text "td"
@@ -62,18 +62,18 @@ deployNames =
     ∷ []
 
 -- type 10, Nebrija University Game
-unfoldable pub gameNames : List (List ℕ)
+abbrev pub gameNames : List (List ℕ)
 gameNames =
     text "clock_tx" ∷ text "week_number" ∷ text "stored_status"
     ∷ text "data0" ∷ text "data1" ∷ text "data2" ∷ text "data3" ∷ text "data4" ∷ text "data5" ∷ text "data6" ∷ text "data7"
     ∷ []
 
 -- type 11, Fraunhofer experiment information
-unfoldable pub experimentNames : List (List ℕ)
+abbrev pub experimentNames : List (List ℕ)
 experimentNames = text "clock_tx" ∷ text "data0" ∷ text "data1" ∷ []
 
 -- type 12, Ephemeris, where one element of the orbit has that name
-unfoldable pub ephemerisWith : List ℕ → List (List ℕ)
+abbrev pub ephemerisWith : List ℕ → List (List ℕ)
 ephemerisWith element =
     text "utc" ∷ text "adr" ∷ text "ful" ∷ text "fdl"
     ∷ text "tle.epoch" ∷ text "tle.xndt2o" ∷ element ∷ text "tle.bstar" ∷ text "tle.xincl" ∷ text "tle.xnodeo"
@@ -81,7 +81,7 @@ ephemerisWith element =
     ∷ text "lat" ∷ text "lon" ∷ text "alt" ∷ text "cnt"
     ∷ []
 
-unfoldable pub ephemerisNames : Document → List (List ℕ)
+abbrev pub ephemerisNames : Document → List (List ℕ)
 ephemerisNames D000 = ephemerisWith (text "tle.xndd6o")
 ephemerisNames D001 = ephemerisWith (text "tle.xnnd6o")
 ephemerisNames D002 = ephemerisWith (text "tle.xnnd6o")

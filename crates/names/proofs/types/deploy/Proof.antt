@@ -3,7 +3,6 @@
 use borrow.Author.Needs.{needs}
 use Rattle.names.specs.Names.{text}
 use Rattle.names.specs.Words.{wordsOf}
-use Rattle.names.specs.Fields.{deployNames}
 use Rattle.names.proofs.Along.{along-append}
 use Rattle.names.proofs.types.deploy.Statement.{statement}
 use Rattle.names.proofs.types.deploy.Tie as tie
@@ -27,7 +26,7 @@ words-requires-2 : tie.Need-words-requires-2
 words-requires-2 c κs = search needs
 
 returns : tie.Need-returns
-unfolding text wordsOf deployNames
+unfolding text wordsOf
 returns c = simp (c .words2 .ensures, c .before .before .before .words .ensures, along-append)
 
 pub deploy-spec : {M : Type 1} → statement M

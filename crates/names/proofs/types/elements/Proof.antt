@@ -3,7 +3,6 @@
 use borrow.Author.Needs.{needs}
 use Rattle.names.specs.Names.{text}
 use Rattle.names.specs.Words.{wordsOf}
-use Rattle.names.specs.Fields.{ephemerisWith}
 use Rattle.names.proofs.Along.{along-append}
 use Rattle.names.proofs.types.elements.Statement.{statement}
 use Rattle.names.proofs.types.elements.Tie as tie
@@ -42,7 +41,7 @@ words-requires-3 : tie.Need-words-requires-3
 words-requires-3 c κs = search needs
 
 returns : tie.Need-returns
-unfolding text wordsOf ephemerisWith
+unfolding text wordsOf
 returns c =
     let orbit = c .before .before .before in
     let differing = orbit .before .before .before in

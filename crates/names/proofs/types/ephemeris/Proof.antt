@@ -2,7 +2,6 @@
 -- Assumes nothing.
 use borrow.Author.Needs.{needs}
 use Rattle.names.specs.Names.{text}
-use Rattle.names.specs.Fields.{ephemerisNames}
 use Rattle.names.proofs.types.ephemeris.Statement.{statement}
 use Rattle.names.proofs.types.ephemeris.Tie as tie
 
@@ -43,19 +42,19 @@ elements-requires-4 : tie.Need-elements-requires-4
 elements-requires-4 c κs = search needs
 
 returns : tie.Need-returns
-unfolding text ephemerisNames
+unfolding text
 returns c = rw (c .before .before .enum-told .given .1) (c .elements .ensures)
 
 returns-2 : tie.Need-returns-2
-unfolding text ephemerisNames
+unfolding text
 returns-2 c = rw (c .before .before .enum-told2 .given .1) (c .elements2 .ensures)
 
 returns-3 : tie.Need-returns-3
-unfolding text ephemerisNames
+unfolding text
 returns-3 c = rw (c .before .before .enum-told3 .given .1) (c .elements3 .ensures)
 
 returns-4 : tie.Need-returns-4
-unfolding text ephemerisNames
+unfolding text
 returns-4 c = rw (c .before .before .enum-told4 .given .1) (c .elements4 .ensures)
 
 pub ephemeris-spec : {M : Type 1} → statement M

@@ -3,7 +3,6 @@
 use borrow.Author.Needs.{needs}
 use Rattle.names.specs.Names.{text}
 use Rattle.names.specs.Words.{wordsOf}
-use Rattle.names.specs.Fields.{experimentNames}
 use Rattle.names.proofs.types.experiment.Statement.{statement}
 use Rattle.names.proofs.types.experiment.Tie as tie
 
@@ -17,7 +16,7 @@ words-requires : tie.Need-words-requires
 words-requires c κs = search needs
 
 returns : tie.Need-returns
-unfolding text wordsOf experimentNames
+unfolding text wordsOf
 returns c = c .words .ensures
 
 pub experiment-spec : {M : Type 1} → statement M

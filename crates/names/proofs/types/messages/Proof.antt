@@ -3,7 +3,6 @@
 use borrow.Author.Needs.{needs}
 use Rattle.names.specs.Names.{text}
 use Rattle.names.specs.Words.{wordsOf}
-use Rattle.names.specs.Fields.{messageNames}
 use Rattle.names.proofs.Along.{along-append}
 use Rattle.names.proofs.types.messages.Statement.{statement}
 use Rattle.names.proofs.types.messages.Tie as tie
@@ -24,7 +23,7 @@ array-requires : tie.Need-array-requires
 array-requires c κs = search needs
 
 returns : tie.Need-returns
-unfolding text wordsOf messageNames
+unfolding text wordsOf
 returns c = simp (c .array .ensures, c .before .before .words .ensures, along-append)
 
 pub messages-spec : {M : Type 1} → statement M

@@ -3,7 +3,6 @@
 use borrow.Author.Needs.{needs}
 use Rattle.names.specs.Names.{text}
 use Rattle.names.specs.Words.{wordsOf}
-use Rattle.names.specs.Fields.{sensorsWith}
 use Rattle.names.proofs.types.sensors.Statement.{statement}
 use Rattle.names.proofs.types.sensors.Tie as tie
 
@@ -14,7 +13,7 @@ words-requires : tie.Need-words-requires
 words-requires c κs = search needs
 
 returns : tie.Need-returns
-unfolding text wordsOf sensorsWith
+unfolding text wordsOf
 returns c = c .words .ensures
 
 pub sensors-spec : {M : Type 1} → statement M

@@ -3,7 +3,6 @@
 use mathlib.Core.List.{append-assoc}
 use borrow.Author.Needs.{needs}
 use Rattle.names.specs.Names.{text}
-use Rattle.names.specs.Fields.{sunsensorNames}
 use Rattle.names.proofs.Along.{along-append}
 use Rattle.names.proofs.types.sunsensors.Statement.{statement}
 use Rattle.names.proofs.types.sunsensors.Tie as tie
@@ -33,7 +32,7 @@ array-requires-3 : tie.Need-array-requires-3
 array-requires-3 c κs = search needs
 
 returns : tie.Need-returns
-unfolding text sunsensorNames
+unfolding text
 returns c =
     let p = c .before .before in
     let v = p .before .before in

@@ -3,7 +3,6 @@
 use borrow.Author.Needs.{needs}
 use Rattle.names.specs.Names.{text}
 use Rattle.names.specs.Words.{wordsOf}
-use Rattle.names.specs.Fields.{sensorsWith, tempStatsNames}
 use Rattle.names.proofs.Along.{along-append}
 use Rattle.names.proofs.types.temp_stats.Statement.{statement}
 use Rattle.names.proofs.types.temp_stats.Tie as tie
@@ -87,14 +86,14 @@ sensors-requires-8 : tie.Need-sensors-requires-8
 sensors-requires-8 c κs = search needs
 
 returns : tie.Need-returns
-unfolding text sensorsWith tempStatsNames
+unfolding text
 returns c =
     let minima = c .before .before in
     let first = minima .before .before in
     rw (first .before .enum-told .given .1) (simp (c .sensors2 .ensures, minima .sensors .ensures, first .clock .ensures, along-append))
 
 returns-2 : tie.Need-returns-2
-unfolding text sensorsWith tempStatsNames
+unfolding text
 returns-2 c =
     let maxima = c .before .before in
     let minima = maxima .before .before in
@@ -102,14 +101,14 @@ returns-2 c =
     (simp (c .sensors5 .ensures, maxima .sensors4 .ensures, minima .sensors3 .ensures, along-append))
 
 returns-3 : tie.Need-returns-3
-unfolding text wordsOf sensorsWith tempStatsNames
+unfolding text wordsOf
 returns-3 c =
     let minima = c .before .before .before in
     let first = minima .before .before in
     rw (first .before .enum-told3 .given .1) (simp (c .words .ensures, minima .sensors6 .ensures, first .clock2 .ensures, along-append))
 
 returns-4 : tie.Need-returns-4
-unfolding text sensorsWith tempStatsNames
+unfolding text
 returns-4 c =
     let minima = c .before .before in
     let first = minima .before .before in

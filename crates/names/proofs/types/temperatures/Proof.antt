@@ -2,7 +2,6 @@
 -- Assumes nothing.
 use borrow.Author.Needs.{needs}
 use Rattle.names.specs.Names.{text}
-use Rattle.names.specs.Fields.{sensorsWith, temperatureNames}
 use Rattle.names.proofs.Along.{along-append}
 use Rattle.names.proofs.types.temperatures.Statement.{statement}
 use Rattle.names.proofs.types.temperatures.Tie as tie
@@ -53,21 +52,21 @@ sensors-requires-4 : tie.Need-sensors-requires-4
 sensors-requires-4 c κs = search needs
 
 returns : tie.Need-returns
-unfolding text sensorsWith temperatureNames
+unfolding text
 returns c =
     rw (c .before .before .before .enum-told .given .1) (simp (c .sensors .ensures, c .before .before .clock .ensures, along-append))
 
 returns-2 : tie.Need-returns-2
-unfolding text sensorsWith temperatureNames
+unfolding text
 returns-2 c = rw (c .before .before .enum-told2 .given .1) (c .sensors2 .ensures)
 
 returns-3 : tie.Need-returns-3
-unfolding text sensorsWith temperatureNames
+unfolding text
 returns-3 c =
     rw (c .before .before .before .enum-told3 .given .1) (simp (c .sensors3 .ensures, c .before .before .clock2 .ensures, along-append))
 
 returns-4 : tie.Need-returns-4
-unfolding text sensorsWith temperatureNames
+unfolding text
 returns-4 c =
     rw (c .before .before .before .enum-told4 .given .1) (simp (c .sensors4 .ensures, c .before .before .clock3 .ensures, along-append))
 
