@@ -11,8 +11,9 @@
 //! Where two papers disagree about a number the program stops with a message.
 //!
 //! ```text
-//! layouts table     SAT TYPE FIELDS BYTES, a heading and one line a frame
-//! layouts fields    SAT TYPE FIELD BIT WIDTH NAME, one line a field
+//! layouts satellites    SAT ADDRESS TRAINING SIZE TYPE_BYTE, one line each
+//! layouts table         SAT TYPE FIELDS BYTES, a heading and one line a frame
+//! layouts fields        SAT TYPE FIELD BIT WIDTH NAME, one line a field
 //! ```
 //!
 //! FIELD counts from 0, BIT from the first bit of the body.
@@ -33,10 +34,11 @@ use std::process::ExitCode;
 fn main() -> io::Result<ExitCode> {
     let arguments: Vec<OsString> = env::args_os().skip(1).collect();
     let text = match arguments.as_slice() {
+        [word] if word == "satellites" => satellites(),
         [word] if word == "table" => table(),
         [word] if word == "fields" => fields(),
         _ => {
-            eprintln!("usage: layouts table | layouts fields");
+            eprintln!("usage: layouts satellites | layouts table | layouts fields");
             return Ok(ExitCode::from(2));
         }
     };
@@ -53,16 +55,23 @@ const CHECKSUM_BYTES: usize = 2;
 /// Type is a number of four bits.
 const KINDS: usize = 16;
 
-/// What differs between satellites: bytes of training, size bytes (one or
-/// none), and the document that describes the satellite.
+/// What differs between satellites: address, bytes of training, size bytes
+/// (one or none), and the document that describes the satellite.
 struct Satellite {
+    address: usize,
     training: usize,
     size: usize,
     document: &'static Document,
 }
 
-const fn satellite(training: usize, size: usize, document: &'static Document) -> Satellite {
+const fn satellite(
+    address: usize,
+    training: usize,
+    size: usize,
+    document: &'static Document,
+) -> Satellite {
     Satellite {
+        address,
         training,
         size,
         document,
@@ -70,13 +79,13 @@ const fn satellite(training: usize, size: usize, document: &'static Document) ->
 }
 
 const SATELLITES: [Satellite; 7] = [
-    satellite(8, 0, &DOCUMENT_001),  // 0 HADES-D
-    satellite(16, 0, &DOCUMENT_002), // 1 HADES-ICM
-    satellite(16, 0, &DOCUMENT_002), // 2 MARIA-G
-    satellite(16, 0, &DOCUMENT_002), // 3 UNNE-1
-    satellite(16, 0, &DOCUMENT_002), // 4 HADES-R
-    satellite(16, 0, &DOCUMENT_004), // 5 UNNE-1B
-    satellite(16, 1, &DOCUMENT_000), // 6 HADES-SA
+    satellite(0x8, 8, 0, &DOCUMENT_001),  // 0 HADES-D
+    satellite(0x2, 16, 0, &DOCUMENT_002), // 1 HADES-ICM
+    satellite(0xB, 16, 0, &DOCUMENT_002), // 2 MARIA-G
+    satellite(0xC, 16, 0, &DOCUMENT_002), // 3 UNNE-1
+    satellite(0xD, 16, 0, &DOCUMENT_002), // 4 HADES-R
+    satellite(0xC, 16, 0, &DOCUMENT_004), // 5 UNNE-1B
+    satellite(0x3, 16, 1, &DOCUMENT_000), // 6 HADES-SA
 ];
 
 // From 01, "The field tables".
@@ -122,6 +131,22 @@ const ROWS: [Row; 11] = [
 ];
 
 // What is printed.
+
+/// What is a satellite's own, and where its type byte stands.
+fn satellites() -> String {
+    let mut text = String::new();
+    for (number, satellite) in SATELLITES.iter().enumerate() {
+        text.push_str(&format!(
+            "{} {} {} {} {}\n",
+            number,
+            satellite.address,
+            satellite.training,
+            satellite.size,
+            before_type(satellite)
+        ));
+    }
+    text
+}
 
 /// The printed table of 01: satellite, type, field count, frame length.
 fn table() -> String {
@@ -208,7 +233,11 @@ fn widths(row: &Row) -> Vec<usize> {
 /// The length of a frame: what comes before the body, the fields, and the
 /// checksum.
 fn frame_bytes(satellite: &Satellite, widths: &[usize]) -> usize {
-    let front = satellite.training + SYNC_BYTES + satellite.size + TYPE_BYTES;
     let bits: usize = widths.iter().sum();
-    front + bits / 8 + CHECKSUM_BYTES
+    before_type(satellite) + TYPE_BYTES + bits / 8 + CHECKSUM_BYTES
+}
+
+/// Training, sync and the size byte if any.
+fn before_type(satellite: &Satellite) -> usize {
+    satellite.training + SYNC_BYTES + satellite.size
 }

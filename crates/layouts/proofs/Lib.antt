@@ -1,5 +1,6 @@
 pub mod Entries
 pub mod Places
+pub mod Laid
 pub mod Determined
 mod Told
 mod Kept

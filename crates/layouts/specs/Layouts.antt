@@ -107,7 +107,7 @@ typesOf s = map (λ e. e .frameType) (entriesOf s)
 abbrev pub carries : Satellite → ℕ → Bool
 carries s t = among t (typesOf s)
 
--- as many fields as the longest row has
+-- no row has more fields (`fields-most`)
 abbrev pub mostFields : ℕ
 mostFields = 95
 

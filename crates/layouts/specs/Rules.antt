@@ -37,4 +37,4 @@ ascending (n ∷ ns) = every (λ m. ltb n m) ns && ascending ns
 
 -- an entry keeps to the rules; its size can stand in a size byte, and its widths in the code's array
 abbrev pub right : Entry → Bool
-right e = tiles e && allowed (e .widths) && (leb (e .size) 255 && leb (length (e .widths)) mostFields)
+right e = tiles e && (allowed (e .widths) && (leb (e .size) 255 && leb (length (e .widths)) mostFields))

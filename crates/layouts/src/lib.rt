@@ -6,7 +6,7 @@ ghost use mathlib.Core.Path.{_≡_};
 ghost use Rattle.layouts.specs.Layouts.{layoutOf, widthAt, startAt};
 use satellites::Satellite;
 
-// As many fields as the longest row has.
+// No row has more fields.
 pub const MOST_FIELDS: usize = 95;
 
 // What a satellite's type is made of: how many fields, their widths in bits, the bytes from type byte to checksum, and the

@@ -11,7 +11,13 @@ ghost use Rattle.layouts.specs.Layouts.{entryOf, found};
 ghost use Rattle.layouts.specs.Rows.{says, kept, rowsAt};
 use satellites::Satellite;
 
-pub(crate) type Row = [u8; 16];
+// Type, size and up to seven pairs.
+pub(crate) const NUMBERS: usize = 16;
+
+pub(crate) type Row = [u8; NUMBERS];
+
+// As many as a satellite may have.
+const ROWS: usize = 6;
 
 // ten temperatures
 const TYPE_2_D: Row = [2, 13, 10, 8, 0, 0, 0, 0, 0, 0, 0, 0, 0, 0, 0, 0];
@@ -46,9 +52,9 @@ const TYPE_11: Row = [11, 9, 1, 32, 2, 8, 0, 0, 0, 0, 0, 0, 0, 0, 0, 0];
 // UTC 32, 16, 12 of 32, latitude, longitude, height 16 each, 8
 const TYPE_12: Row = [12, 64, 1, 32, 1, 16, 12, 32, 3, 16, 1, 8, 0, 0, 0, 0];
 
-const NO_ROW: Row = [0; 16];
+const NO_ROW: Row = [0; NUMBERS];
 
-const TABLE: [[Row; 6]; 7] = [
+const TABLE: [[Row; ROWS]; 7] = [
     [TYPE_2_D, TYPE_5_D, TYPE_8_D, NO_ROW, NO_ROW, NO_ROW],
     [TYPE_2, TYPE_5, TYPE_6, TYPE_7, TYPE_12, NO_ROW],
     [TYPE_2, TYPE_5, TYPE_6, TYPE_11, TYPE_12, NO_ROW],
@@ -65,11 +71,11 @@ pub(crate) fn row_of(satellite: Satellite, ty: u32) -> Row
     find(rows_of(satellite), ty)
 }
 
-fn find(rows: [Row; 6], ty: u32) -> Row
+fn find(rows: [Row; ROWS], ty: u32) -> Row
     ensures { λ r. ⌜ says r ≡ found ty (map says rows) ⌝ }
 {
     let mut k: usize = 0;
-    while k < 6 {
+    while k < ROWS {
         let row = rows[k];
         if is_of(row, ty) {
             return row;
@@ -86,14 +92,14 @@ fn is_of(row: Row, ty: u32) -> bool
 }
 
 // The rows of a satellite, fetched once: the table is made anew at each use.
-fn rows_of(satellite: Satellite) -> [Row; 6]
+fn rows_of(satellite: Satellite) -> [Row; ROWS]
     ensures { λ r. ⌜ map says r ≡ kept satellite ⌝ }
 {
     let number = satellite.number() as usize;
     at(TABLE, number)
 }
 
-fn at(table: [[Row; 6]; 7], number: usize) -> [Row; 6]
+fn at(table: [[Row; ROWS]; 7], number: usize) -> [Row; ROWS]
     requires { ⌜ number < 7 ⌝ }
     ensures { λ r. ⌜ r ≡ rowsAt table number ⌝ }
 {

@@ -6,6 +6,7 @@ ghost use lib.ListN.{length, take, drop};
 ghost use Rattle.layouts.specs.Layouts.{_of_, mostFields};
 ghost use Rattle.layouts.specs.Rows.{says, widthsOf};
 use crate::MOST_FIELDS;
+use crate::table::NUMBERS;
 use crate::table::Row;
 
 // How many fields there are, and their widths, with zeros behind them.
@@ -24,7 +25,7 @@ pub(crate) fn unroll(row: Row) -> Widths
         bits: [0; MOST_FIELDS],
     };
     let mut k: usize = 2;
-    while k < 16 {
+    while k < NUMBERS {
         all = all.and(row[k], row[k + 1]);
         k += 2;
     }

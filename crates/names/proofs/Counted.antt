@@ -2,34 +2,20 @@
 -- and the laws that lead from the tests to every type.
 -- Assumes nothing.
 use Prim.Native.Nat.{ℕ, _≤_, _<_}
-use mathlib.Core.Path.{_≡_, refl, subst}
-use mathlib.Core.Bool.{Bool, true, false, false≢true, _&&_, _||_}
-use mathlib.Core.List.{List, [], _∷_}
+use mathlib.Core.Path.{_≡_, refl}
+use mathlib.Core.Bool.{Bool, true, false, _&&_}
+use mathlib.Core.List.{List, []}
 use native.Mathlib.Omega.{arith}
 use lib.Dec.{T, leb, eqb, leb→le, eqb→eq}
 use lib.ListN.{length, getD}
-use borrow.Author.Tests.{eqb-true}
 use mir.Facts.{and-yes}
 use Rattle.satellites.specs.declared.Satellite.{Satellite}
 use Rattle.satellites.specs.declared.Satellite.the-variants.{HadesD, HadesIcm, MariaG, Unne1, HadesR, Unne1b, HadesSa}
 use Rattle.layouts.specs.Layouts.{table, counted, among, carriedBy, found, entryOf, typesOf, carries}
 use Rattle.layouts.specs.Rules.{every}
-use Rattle.layouts.proofs.Entries.{each, no-entry}
+use Rattle.layouts.proofs.Entries.{each, passes, no-entry}
 use Rattle.names.specs.Names.{text, index, arrayOf, gridOf, mostLetters, written}
 use Rattle.names.specs.Fields.{namesOf, nameOf}
-
--- what passes for all of some numbers passes for each that is among them
-passes : (test : ℕ → Bool) (ns : List ℕ) (t : ℕ) → T (every test ns) → among t ns ≡ true → T (test t)
-unfolding every among
-passes test [] t all in-it = absurd (false≢true in-it)
-passes test (n ∷ ns) t all in-it = go (eqb n t) refl in-it (passes test ns t (both .1))
-  where
-    both : T (test n) × T (every test ns)
-    both = and-yes (test n) (every test ns) all
-
-    go : (b : Bool) → eqb n t ≡ b → b || among t ns ≡ true → (among t ns ≡ true → T (test t)) → T (test t)
-    go true e in-it rest = subst (λ m. T (test m)) (eqb-true n t e) (both .0)
-    go false e in-it rest = rest in-it
 
 -- a type has as many names as fields
 abbrev asMany : Satellite → ℕ → Bool

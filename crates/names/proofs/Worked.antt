@@ -59,10 +59,10 @@ pub element-of-document-0 : nameOf HadesSa 12 6 ≡ written (text "tle.xndd6o")
 unfolding table counted among carriedBy text
 element-of-document-0 = refl
 
--- the last voltage of type 6, and the last character of type 7
-pub last-voltage-is : nameOf Unne1 6 53 ≡ written (text "v[7][5]")
+-- the last light value of type 6, and the last character of type 7
+pub last-light-is : nameOf Unne1 6 53 ≡ written (text "v[7][5]")
 unfolding table counted among carriedBy text index arrayOf gridOf
-last-voltage-is = refl
+last-light-is = refl
 
 pub last-character-is : nameOf HadesIcm 7 94 ≡ written (text "data[92]")
 unfolding table counted among carriedBy text index arrayOf

@@ -87,7 +87,8 @@ ephemerisNames D001 = ephemerisWith (text "tle.xnnd6o")
 ephemerisNames D002 = ephemerisWith (text "tle.xnnd6o")
 ephemerisNames D004 = ephemerisWith (text "tle.xndd6o")
 
--- the names that a document prints for a type, in the order of the fields; none for a type that is not among these
+-- the names of 01's fields of a type in their order, spelled as in the document; which satellites carry the type is not asked
+-- here, and a document may use it for something else or not at all
 abbrev pub printed : Document → ℕ → List (List ℕ)
 printed document ty =
     cond (eqb ty 2) (temperatureNames document)

@@ -31,7 +31,7 @@ written xs = record { letters = min mostLetters (length xs); text = padded mostL
 abbrev pub decimal : ℕ → List ℕ
 decimal n = cond (ltb n 10) ((48 + n) ∷ []) ((48 + n / 10) ∷ (48 + n % 10) ∷ [])
 
--- an index in square brackets; no index is above 99
+-- an index in square brackets, by its last two digits: the longest array has 93 places
 unfoldable pub index : ℕ → List ℕ
 index n = text "[" ++ (decimal (n % 100) ++ text "]")
 

@@ -10,14 +10,14 @@ use crate::Name;
 
 // The field that is asked for, on the way along the names of its row: how many names are still to pass, and, once it is
 // found, its name.
-pub struct Asked {
-    pub found: bool,
-    pub left: usize,
-    pub name: Name,
+pub(crate) struct Asked {
+    pub(crate) found: bool,
+    pub(crate) left: usize,
+    pub(crate) name: Name,
 }
 
 impl Asked {
-    pub fn field(field: usize) -> Asked
+    pub(crate) fn field(field: usize) -> Asked
         ensures { λ r. ⌜ r ≡ asking field ⌝ }
     {
         Asked {
@@ -28,7 +28,7 @@ impl Asked {
     }
 
     // The next name is that word behind that prefix.
-    pub fn one(self, prefix: &[u8], word: &[u8]) -> Asked
+    pub(crate) fn one(self, prefix: &[u8], word: &[u8]) -> Asked
         ensures { λ r. ⌜ r ≡ along self ((now (prefix .entry) ++ now (word .entry)) ∷ []) ⌝ }
     {
         let found = self.found;
@@ -50,7 +50,7 @@ impl Asked {
     }
 
     // The next names are the words of a text, which single blanks part, each behind that prefix.
-    pub fn words(self, prefix: &[u8], text: &[u8]) -> Asked
+    pub(crate) fn words(self, prefix: &[u8], text: &[u8]) -> Asked
         ensures { λ r. ⌜ r ≡ along self (prefixed (now (prefix .entry)) (wordsOf (now (text .entry)))) ⌝ }
     {
         let mut asked = self;
@@ -64,14 +64,14 @@ impl Asked {
     }
 
     // The next names are stem[0] .. stem[count - 1].
-    pub fn array(self, stem: &[u8], count: usize) -> Asked
+    pub(crate) fn array(self, stem: &[u8], count: usize) -> Asked
         ensures { λ r. ⌜ r ≡ along self (arrayOf (now (stem .entry)) count) ⌝ }
     {
         self.indexed(Name::none().and_all(stem), count)
     }
 
     // The next names are stem[0][0] .. stem[rows - 1][columns - 1], the second index fastest.
-    pub fn grid(self, stem: &[u8], rows: usize, columns: usize) -> Asked
+    pub(crate) fn grid(self, stem: &[u8], rows: usize, columns: usize) -> Asked
         ensures { λ r. ⌜ r ≡ along self (gridOf (now (stem .entry)) rows columns) ⌝ }
     {
         let name = Name::none().and_all(stem);

@@ -11,7 +11,7 @@ use crate::asked::Asked;
 use satellites::Satellite;
 
 // The satellite teams' documents, by number. Each describes other satellites.
-pub enum Document {
+pub(crate) enum Document {
     D000,
     D001,
     D002,
@@ -19,7 +19,7 @@ pub enum Document {
 }
 
 impl Document {
-    pub fn of(satellite: Satellite) -> Document
+    pub(crate) fn of(satellite: Satellite) -> Document
         ensures { λ r. ⌜ r ≡ documentOf satellite ⌝ }
     {
         match satellite {
@@ -33,8 +33,8 @@ impl Document {
         }
     }
 
-    // The name that the document prints for a field of a type.
-    pub fn name(self, ty: u32, field: usize) -> Name
+    // The name of a field of a type, spelled as in the document. Which types a satellite carries is not asked here.
+    pub(crate) fn name(self, ty: u32, field: usize) -> Name
         ensures { λ r. ⌜ r ≡ written (getD (printed self ty) field []) ⌝ }
     {
         let asked = Asked::field(field);

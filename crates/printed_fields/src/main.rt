@@ -10,7 +10,7 @@ use satellites::Satellite;
 const TYPES: u32 = 16;
 
 fn main() {
-    for number in 0..Satellite::COUNT {
+    for number in 0..Satellite::count() {
         if let Known::Is(satellite) = Satellite::from_number(number) {
             print_types(satellite);
         }

@@ -9,7 +9,7 @@ const TYPES: u32 = 16;
 
 fn main() {
     io::write_all(STDOUT_FILENO, b"sat type fields bytes\n");
-    for number in 0..Satellite::COUNT {
+    for number in 0..Satellite::count() {
         if let Known::Is(satellite) = Satellite::from_number(number) {
             print_types(satellite);
         }

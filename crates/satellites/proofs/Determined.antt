@@ -2,12 +2,16 @@
 -- the check reads it.
 -- Assumes nothing.
 use mathlib.Core.Path.{_≡_, sym, _∙_}
+use Rattle.satellites.proofs.Satellite.count.Reads as count
 use Rattle.satellites.proofs.Satellite.from_number.Reads as from-number
 use Rattle.satellites.proofs.Satellite.number.Reads as number
 use Rattle.satellites.proofs.Satellite.address.Reads as address
 use Rattle.satellites.proofs.Satellite.training.Reads as training
 use Rattle.satellites.proofs.Satellite.has_size_byte.Reads as has-size-byte
 use Rattle.satellites.proofs.Satellite.type_byte_at.Reads as type-byte-at
+
+pub count-determined : (κs a r r′ s s′ : _) → count.Post κs a r s → count.Post κs a r′ s′ → r ≡ r′
+count-determined κs a r r′ s s′ p q = p ∙ sym q
 
 pub from-number-determined : (κs a r r′ s s′ : _) → from-number.Post κs a r s → from-number.Post κs a r′ s′ → r ≡ r′
 from-number-determined κs a r r′ s s′ p q = p ∙ sym q

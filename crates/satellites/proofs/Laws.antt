@@ -4,7 +4,7 @@ use Prim.Native.Nat.{ℕ, zero, suc, _≤_, _<_}
 use mathlib.Core.Path.{_≡_, refl, sym, _∙_, ap, subst}
 use mathlib.Core.List.{map}
 use lib.Dec.{lit≤}
-use lib.ListN.{List·getD-eq-default}
+use lib.ListN.{length, List·getD-eq-default}
 use Rattle.satellites.specs.declared.Satellite.{Satellite}
 use Rattle.satellites.specs.declared.Satellite.the-variants.{HadesD, HadesIcm, MariaG, Unne1, HadesR, Unne1b, HadesSa}
 use Rattle.satellites.specs.declared.Known.{Known}
@@ -57,8 +57,8 @@ training-most HadesR = lit≤ tt
 training-most Unne1b = lit≤ tt
 training-most HadesSa = lit≤ tt
 
--- the numbers are those below seven
-pub number-below : (s : Satellite) → numberOf s < 7
+-- the numbers are those below the count
+pub number-below : (s : Satellite) → numberOf s < length seven
 number-below HadesD = lit≤ tt
 number-below HadesIcm = lit≤ tt
 number-below MariaG = lit≤ tt

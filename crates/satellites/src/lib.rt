@@ -3,7 +3,8 @@
 // What is a satellite's own is asked of this type, here and nowhere else. The address does not tell the satellite: C has
 // two owners.
 ghost use mathlib.Core.Path.{_≡_};
-ghost use Rattle.satellites.specs.Satellites.{known, numberOf, addressOf, trainingOf, sizeByteOf, typeByteAt};
+ghost use lib.ListN.{length};
+ghost use Rattle.satellites.specs.Satellites.{seven, known, numberOf, addressOf, trainingOf, sizeByteOf, typeByteAt};
 
 pub enum Satellite {
     HadesD,
@@ -22,9 +23,6 @@ pub enum Known {
 }
 
 impl Satellite {
-    // How many there are: their numbers are those below it.
-    pub const COUNT: u32 = 7;
-
     // Bytes of training: HADES-D's, and all others'.
     pub const SHORT_TRAINING: usize = 8;
 
@@ -32,6 +30,13 @@ impl Satellite {
 
     // Bytes of sync, the same for all.
     pub const SYNC_BYTES: usize = 2;
+
+    // How many there are. Their numbers are those below it.
+    pub fn count() -> u32
+        ensures { λ r. ⌜ r ≡ length seven ⌝ }
+    {
+        7
+    }
 
     // The satellite of that number. The number is not cut down first: 259 is not 3.
     pub fn from_number(number: u32) -> Known

@@ -6,10 +6,13 @@ use Rattle.printed_fields.proofs.main.Statement.{statement}
 use Rattle.printed_fields.proofs.main.Tie as tie
 
 abbrev Inv-loop : tie.InvT-loop
-Inv-loop number₀ number = number ≤ 7
+Inv-loop number₀ number-end number = number ≤ number-end
 
 abbrev μ-loop : tie.MeasureT-loop
-μ-loop number₀ number = 7 - number
+μ-loop number₀ number-end number = number-end - number
+
+count-requires : tie.Need-count-requires Inv-loop μ-loop
+count-requires c κs = search needs
 
 loop-holds : tie.Need-loop-holds Inv-loop μ-loop
 loop-holds c = search needs
@@ -44,6 +47,7 @@ main-spec =
     (tie.spec
     Inv-loop
     μ-loop
+    count-requires
     loop-holds
     from-number-requires
     enum-known-satellite

@@ -6,16 +6,19 @@ use Rattle.printed_table.proofs.main.Statement.{statement}
 use Rattle.printed_table.proofs.main.Tie as tie
 
 abbrev Inv-loop : tie.InvT-loop
-Inv-loop number₀ number = number ≤ 7
+Inv-loop number₀ number-end number = number ≤ number-end
 
 abbrev μ-loop : tie.MeasureT-loop
-μ-loop number₀ number = 7 - number
+μ-loop number₀ number-end number = number-end - number
 
 slice-aggregate-write-all : tie.Need-slice-aggregate-write-all Inv-loop μ-loop
 slice-aggregate-write-all c = search needs
 
 write-all-requires : tie.Need-write-all-requires Inv-loop μ-loop
 write-all-requires c κs = search needs
+
+count-requires : tie.Need-count-requires Inv-loop μ-loop
+count-requires c κs = search needs
 
 loop-holds : tie.Need-loop-holds Inv-loop μ-loop
 loop-holds c = search needs
@@ -52,6 +55,7 @@ main-spec =
     μ-loop
     slice-aggregate-write-all
     write-all-requires
+    count-requires
     loop-holds
     from-number-requires
     enum-known-satellite
