@@ -11,9 +11,8 @@
 //! Where two papers disagree about a number the program stops with a message.
 //!
 //! ```text
-//! layouts satellites    SAT ADDRESS TRAINING SIZE TYPE_BYTE, one line each
-//! layouts table         SAT TYPE FIELDS BYTES, a heading and one line a frame
-//! layouts fields        SAT TYPE FIELD BIT WIDTH NAME, one line a field
+//! layouts table     SAT TYPE FIELDS BYTES, a heading and one line a frame
+//! layouts fields    SAT TYPE FIELD BIT WIDTH NAME, one line a field
 //! ```
 //!
 //! FIELD counts from 0, BIT from the first bit of the body.
@@ -24,8 +23,10 @@
 //! ```
 
 mod documents;
+mod satellites;
 
 use documents::{names, Document, DOCUMENT_000, DOCUMENT_001, DOCUMENT_002, DOCUMENT_004};
+use satellites::{Satellite, SATELLITES};
 use std::env;
 use std::ffi::OsString;
 use std::io::{self, Write};
@@ -34,11 +35,10 @@ use std::process::ExitCode;
 fn main() -> io::Result<ExitCode> {
     let arguments: Vec<OsString> = env::args_os().skip(1).collect();
     let text = match arguments.as_slice() {
-        [word] if word == "satellites" => satellites(),
         [word] if word == "table" => table(),
         [word] if word == "fields" => fields(),
         _ => {
-            eprintln!("usage: layouts satellites | layouts table | layouts fields");
+            eprintln!("usage: layouts table | layouts fields");
             return Ok(ExitCode::from(2));
         }
     };
@@ -48,44 +48,21 @@ fn main() -> io::Result<ExitCode> {
 
 // From 01, "From antenna order to bytes".
 
-const SYNC_BYTES: usize = 2;
 const TYPE_BYTES: usize = 1;
 const CHECKSUM_BYTES: usize = 2;
 
 /// Type is a number of four bits.
 const KINDS: usize = 16;
 
-/// What differs between satellites: address, bytes of training, size bytes
-/// (one or none), and the document that describes the satellite.
-struct Satellite {
-    address: usize,
-    training: usize,
-    size: usize,
-    document: &'static Document,
-}
-
-const fn satellite(
-    address: usize,
-    training: usize,
-    size: usize,
-    document: &'static Document,
-) -> Satellite {
-    Satellite {
-        address,
-        training,
-        size,
-        document,
-    }
-}
-
-const SATELLITES: [Satellite; 7] = [
-    satellite(0x8, 8, 0, &DOCUMENT_001),  // 0 HADES-D
-    satellite(0x2, 16, 0, &DOCUMENT_002), // 1 HADES-ICM
-    satellite(0xB, 16, 0, &DOCUMENT_002), // 2 MARIA-G
-    satellite(0xC, 16, 0, &DOCUMENT_002), // 3 UNNE-1
-    satellite(0xD, 16, 0, &DOCUMENT_002), // 4 HADES-R
-    satellite(0xC, 16, 0, &DOCUMENT_004), // 5 UNNE-1B
-    satellite(0x3, 16, 1, &DOCUMENT_000), // 6 HADES-SA
+/// The document that describes each satellite.
+const DOCUMENTS: [&Document; 7] = [
+    &DOCUMENT_001, // 0 HADES-D
+    &DOCUMENT_002, // 1 HADES-ICM
+    &DOCUMENT_002, // 2 MARIA-G
+    &DOCUMENT_002, // 3 UNNE-1
+    &DOCUMENT_002, // 4 HADES-R
+    &DOCUMENT_004, // 5 UNNE-1B
+    &DOCUMENT_000, // 6 HADES-SA
 ];
 
 // From 01, "The field tables".
@@ -132,22 +109,6 @@ const ROWS: [Row; 11] = [
 
 // What is printed.
 
-/// What is a satellite's own, and where its type byte stands.
-fn satellites() -> String {
-    let mut text = String::new();
-    for (number, satellite) in SATELLITES.iter().enumerate() {
-        text.push_str(&format!(
-            "{} {} {} {} {}\n",
-            number,
-            satellite.address,
-            satellite.training,
-            satellite.size,
-            before_type(satellite)
-        ));
-    }
-    text
-}
-
 /// The printed table of 01: satellite, type, field count, frame length.
 fn table() -> String {
     let mut text = String::from("sat type fields bytes\n");
@@ -165,15 +126,15 @@ fn table() -> String {
 /// Every field of every frame: number, first bit, width and name.
 fn fields() -> String {
     let mut text = String::new();
-    for (number, satellite) in SATELLITES.iter().enumerate() {
+    for (number, document) in DOCUMENTS.iter().enumerate() {
         for row in rows(number) {
             let widths = widths(row);
-            let names = names(satellite.document, row.kind);
+            let names = names(document, row.kind);
             assert_eq!(
                 names.len(),
                 widths.len(),
                 "document {} and 01 differ in the field count of type {}",
-                satellite.document.number,
+                document.number,
                 row.kind
             );
             let mut bit = 0;
@@ -234,10 +195,5 @@ fn widths(row: &Row) -> Vec<usize> {
 /// checksum.
 fn frame_bytes(satellite: &Satellite, widths: &[usize]) -> usize {
     let bits: usize = widths.iter().sum();
-    before_type(satellite) + TYPE_BYTES + bits / 8 + CHECKSUM_BYTES
-}
-
-/// Training, sync and the size byte if any.
-fn before_type(satellite: &Satellite) -> usize {
-    satellite.training + SYNC_BYTES + satellite.size
+    satellite.before_type() + TYPE_BYTES + bits / 8 + CHECKSUM_BYTES
 }

@@ -1,4 +1,4 @@
-//! A second program for the leaves: checksum, scrambler and bit fields.
+//! A second program for the leaves: checksum, scrambler, bit fields, satellites.
 //!
 //! It was written from the papers alone and shares no line with the library,
 //! so that a slip in one of the two shows as a difference in the answers. For
@@ -15,6 +15,7 @@
 //! unscramble NEAR FAR START DATA       the bytes meant, then the register
 //! field START WIDTH DATA               the number in the field, four bytes
 //! replace START WIDTH VALUE DATA       the bytes with another number there
+//! satellite NUMBER                     what is its own, or none
 //! ```
 //!
 //! All of it is hexadecimal, most significant digit first, in whole bytes;
@@ -27,6 +28,8 @@
 //! rustc -O --edition 2021 -o leaves docs/src/leaves.rs
 //! ./leaves < crates/vectors/stdin
 //! ```
+
+mod satellites;
 
 use std::io::{self, BufRead, Write};
 
@@ -70,6 +73,7 @@ fn answer(line: &str) -> Option<String> {
         "unscramble" => answer_scrambler(&mut given, unscramble),
         "field" => answer_field(&mut given),
         "replace" => answer_replace(&mut given),
+        "satellite" => answer_satellite(&mut given),
         _ => None,
     }
 }
@@ -115,6 +119,11 @@ fn answer_replace(given: &mut Given) -> Option<String> {
     let width = given.number(8)? as usize;
     let value = given.number(32)?;
     Some(digits_of_bits(&replace(start, width, value, given.rest())))
+}
+
+fn answer_satellite(given: &mut Given) -> Option<String> {
+    let number = given.number(32)? as usize;
+    given.rest().is_empty().then(|| satellites::own(number))
 }
 
 /// The bits of a question, taken from the front.

@@ -111,17 +111,19 @@ fn messages(asked: Asked) -> Asked
 fn deploy(asked: Asked) -> Asked
     ensures { λ r. ⌜ r ≡ along asked deployNames ⌝ }
 {
-    asked
-        .words(b"", b"v1oc v1 i1 i1pk r1 v2oc v2 r2 t0 td")
-        .words(b"", b"state_begin state_end state_now enable counter tmp")
+    asked.words(
+        b"",
+        b"v1oc v1 i1 i1pk r1 v2oc v2 r2 t0 td state_begin state_end state_now enable counter tmp",
+    )
 }
 
 fn game(asked: Asked) -> Asked
     ensures { λ r. ⌜ r ≡ along asked gameNames ⌝ }
 {
-    asked
-        .words(b"", b"clock_tx week_number stored_status")
-        .words(b"data", b"0 1 2 3 4 5 6 7")
+    asked.words(
+        b"",
+        b"clock_tx week_number stored_status data0 data1 data2 data3 data4 data5 data6 data7",
+    )
 }
 
 fn experiment(asked: Asked) -> Asked

@@ -10,15 +10,13 @@ use satellites::Satellite;
 const TYPES: u32 = 16;
 
 fn main() {
-    for number in 0..Satellite::count() {
-        if let Known::Is(satellite) = Satellite::from_number(number) {
-            print_types(satellite);
-        }
+    for place in 0..Satellite::count() * TYPES {
+        print_type(place / TYPES, place % TYPES);
     }
 }
 
-fn print_types(satellite: Satellite) {
-    for ty in 0..TYPES {
+fn print_type(number: u32, ty: u32) {
+    if let Known::Is(satellite) = Satellite::from_number(number) {
         print_fields(satellite, ty, layouts::of(satellite, ty));
     }
 }

@@ -9,18 +9,16 @@ const TYPES: u32 = 16;
 
 fn main() {
     io::write_all(STDOUT_FILENO, b"sat type fields bytes\n");
-    for number in 0..Satellite::count() {
-        if let Known::Is(satellite) = Satellite::from_number(number) {
-            print_types(satellite);
-        }
+    for place in 0..Satellite::count() * TYPES {
+        print_type(place / TYPES, place % TYPES);
     }
 }
 
-fn print_types(satellite: Satellite) {
-    for ty in 0..TYPES {
+fn print_type(number: u32, ty: u32) {
+    if let Known::Is(satellite) = Satellite::from_number(number) {
         let layout = layouts::of(satellite, ty);
         if layout.carried {
-            print_line(satellite.number(), ty, layout.fields, layout.frame);
+            print_line(number, ty, layout.fields, layout.frame);
         }
     }
 }

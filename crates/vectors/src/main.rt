@@ -1,4 +1,4 @@
-// Answers questions about the leaves: checksum, scrambler, fields. A question is a line of standard input in
+// Answers questions about the leaves: checksum, scrambler, fields, satellites. A question is a line of standard input in
 // hexadecimal; it is written again with its answer behind it. Lines that begin with '#', and empty ones, are written as
 // they are.
 //
@@ -7,6 +7,7 @@
 //     unscramble NEAR FAR START DATA          = DATA REGISTER
 //     field START WIDTH DATA                  = VALUE             (2 and 1 bytes, then the data)
 //     replace START WIDTH VALUE DATA          = DATA              (2, 1 and 4 bytes, then the data)
+//     satellite NUMBER                        = NUMBER ADDRESS TRAINING SIZE TYPE_BYTE, or none   (4 bytes)
 //
 // A line that is no question, or has more than 512 bytes of parameters and data, is answered '?'. Input past its first
 // 65,536 bytes is not read.

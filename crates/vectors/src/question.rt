@@ -2,6 +2,8 @@
 use crate::hex;
 use crate::text;
 use libc::STDOUT_FILENO;
+use satellites::Known;
+use satellites::Satellite;
 use scrambler::Register;
 
 pub(crate) fn answer(line: &[u8]) {
@@ -40,6 +42,8 @@ fn ask(word: &[u8], data: &mut [u8]) {
         field(data);
     } else if check::same(word, b"replace") {
         replace(data);
+    } else if check::same(word, b"satellite") {
+        satellite(data);
     } else {
         malformed();
     }
@@ -102,4 +106,35 @@ fn replace(data: &mut [u8]) {
     let value = bits::read_field(data, 24, 32);
     bits::replace_field(&mut data[7..], at, width, value);
     hex::print(&data[7..]);
+}
+
+fn satellite(data: &[u8]) {
+    if data.len() != 4 {
+        malformed();
+        return;
+    }
+    match Satellite::from_number(bits::read_field(data, 0, 32)) {
+        Known::Is(satellite) => print_satellite(satellite),
+        Known::Unknown => {
+            io::write_all(STDOUT_FILENO, b"none");
+        }
+    }
+}
+
+// Training and place are far below 256: each is a byte here.
+fn print_satellite(satellite: Satellite) {
+    hex::print_number(satellite.number(), 1);
+    print_next(satellite.address() as u32);
+    print_next((satellite.training() % 256) as u32);
+    if satellite.has_size_byte() {
+        print_next(1);
+    } else {
+        print_next(0);
+    }
+    print_next((satellite.type_byte_at() % 256) as u32);
+}
+
+fn print_next(byte: u32) {
+    io::write_all(STDOUT_FILENO, b" ");
+    hex::print_number(byte, 1);
 }

@@ -6,31 +6,25 @@ use Rattle.printed_fields.proofs.main.Statement.{statement}
 use Rattle.printed_fields.proofs.main.Tie as tie
 
 abbrev Inv-loop : tie.InvT-loop
-Inv-loop number₀ number-end number = number ≤ number-end
+Inv-loop place₀ place-end place = place ≤ place-end
 
 abbrev μ-loop : tie.MeasureT-loop
-μ-loop number₀ number-end number = number-end - number
+μ-loop place₀ place-end place = place-end - place
 
 count-requires : tie.Need-count-requires Inv-loop μ-loop
 count-requires c κs = search needs
 
+mul-place-end : tie.Need-mul-place-end Inv-loop μ-loop
+mul-place-end c = search needs
+
 loop-holds : tie.Need-loop-holds Inv-loop μ-loop
 loop-holds c = search needs
 
-from-number-requires : tie.Need-from-number-requires Inv-loop μ-loop
-from-number-requires c κs = search needs
+print-type-requires : tie.Need-print-type-requires Inv-loop μ-loop
+print-type-requires c κs = search needs
 
-enum-known-satellite : tie.Need-enum-known-satellite Inv-loop μ-loop
-enum-known-satellite c = search needs
-
-print-types-requires : tie.Need-print-types-requires Inv-loop μ-loop
-print-types-requires c κs = search needs
-
-enum-told : tie.Need-enum-told Inv-loop μ-loop
-enum-told c = search needs
-
-add-number : tie.Need-add-number Inv-loop μ-loop
-add-number c = search needs
+add-place : tie.Need-add-place Inv-loop μ-loop
+add-place c = search needs
 
 loop-less : tie.Need-loop-less Inv-loop μ-loop
 loop-less c = search needs
@@ -48,12 +42,10 @@ main-spec =
     Inv-loop
     μ-loop
     count-requires
+    mul-place-end
     loop-holds
-    from-number-requires
-    enum-known-satellite
-    print-types-requires
-    enum-told
-    add-number
+    print-type-requires
+    add-place
     loop-less
     loop-again
     returns)
