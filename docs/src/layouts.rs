@@ -23,10 +23,12 @@
 //! ```
 
 mod documents;
+mod rows;
 mod satellites;
 
 use documents::{names, Document, DOCUMENT_000, DOCUMENT_001, DOCUMENT_002, DOCUMENT_004};
-use satellites::{Satellite, SATELLITES};
+use rows::{frame_bytes, rows, widths};
+use satellites::SATELLITES;
 use std::env;
 use std::ffi::OsString;
 use std::io::{self, Write};
@@ -46,14 +48,6 @@ fn main() -> io::Result<ExitCode> {
     Ok(ExitCode::SUCCESS)
 }
 
-// From 01, "From antenna order to bytes".
-
-const TYPE_BYTES: usize = 1;
-const CHECKSUM_BYTES: usize = 2;
-
-/// Type is a number of four bits.
-const KINDS: usize = 16;
-
 /// The document that describes each satellite.
 const DOCUMENTS: [&Document; 7] = [
     &DOCUMENT_001, // 0 HADES-D
@@ -63,48 +57,6 @@ const DOCUMENTS: [&Document; 7] = [
     &DOCUMENT_002, // 4 HADES-R
     &DOCUMENT_004, // 5 UNNE-1B
     &DOCUMENT_000, // 6 HADES-SA
-];
-
-// From 01, "The field tables".
-
-/// So many fields of so many bits: "8 of 16" is (8, 16).
-type Run = (usize, usize);
-
-const CLOCK: Run = (1, 32);
-const TEN: Run = (10, 8);
-
-/// One line of the table, its columns in the order of the paper.
-struct Row {
-    kind: usize,
-    runs: &'static [Run],
-    senders: &'static [usize],
-    bytes: usize,
-}
-
-const fn row(kind: usize, runs: &'static [Run], senders: &'static [usize], bytes: usize) -> Row {
-    Row {
-        kind,
-        runs,
-        senders,
-        bytes,
-    }
-}
-
-#[rustfmt::skip]
-const ROWS: [Row; 11] = [
-    row(2, &[TEN], &[0], 13),
-    row(2, &[CLOCK, TEN], &[1, 2, 3, 4, 5, 6], 17),
-    row(5, &[TEN, TEN, TEN], &[0], 33),
-    row(5, &[CLOCK, TEN, TEN], &[1, 2, 3, 4, 5, 6], 27),
-    row(6, &[(6, 16), (48, 16), (8, 16), (8, 8)], &[1, 2, 3, 4, 5], 135),
-    row(7, &[CLOCK, (1, 8), (93, 8)], &[1], 101),
-    row(8, &[(8, 16), (1, 32), (1, 16),
-             (1, 4), (1, 2), (1, 1), (1, 1), (1, 8), (1, 8)], &[0], 28),
-    row(8, &[(8, 16), (1, 32), (1, 16), (6, 8)], &[6], 31),
-    row(10, &[CLOCK, (1, 8), (1, 8), (8, 8)], &[3, 5], 17),
-    row(11, &[CLOCK, (2, 8)], &[2], 9),
-    row(12, &[(1, 32), (1, 16), (12, 32),
-              (1, 16), (1, 16), (1, 16), (1, 8)], &[1, 2, 3, 4, 5, 6], 64),
 ];
 
 // What is printed.
@@ -148,52 +100,4 @@ fn fields() -> String {
         }
     }
     text
-}
-
-// Widths and lengths.
-
-/// The rows that a satellite sends, by ascending type, at most one for each.
-fn rows(satellite: usize) -> Vec<&'static Row> {
-    let mut sent = Vec::new();
-    for kind in 0..KINDS {
-        let before = sent.len();
-        for row in &ROWS {
-            if row.kind == kind && row.senders.contains(&satellite) {
-                sent.push(row);
-            }
-        }
-        assert!(
-            sent.len() <= before + 1,
-            "01 gives satellite {} two rows of type {}",
-            satellite,
-            kind
-        );
-    }
-    sent
-}
-
-/// The width of each field of a row. Their sum is compared with what 01 says
-/// of the part from type byte to checksum.
-fn widths(row: &Row) -> Vec<usize> {
-    let mut widths = Vec::new();
-    for &(count, width) in row.runs {
-        for _ in 0..count {
-            widths.push(width);
-        }
-    }
-    let bits: usize = widths.iter().sum();
-    assert_eq!(
-        8 * TYPE_BYTES + bits + 8 * CHECKSUM_BYTES,
-        8 * row.bytes,
-        "type {}: the widths and the last column of 01 differ",
-        row.kind
-    );
-    widths
-}
-
-/// The length of a frame: what comes before the body, the fields, and the
-/// checksum.
-fn frame_bytes(satellite: &Satellite, widths: &[usize]) -> usize {
-    let bits: usize = widths.iter().sum();
-    satellite.before_type() + TYPE_BYTES + bits / 8 + CHECKSUM_BYTES
 }

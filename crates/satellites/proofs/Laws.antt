@@ -1,6 +1,7 @@
 -- Numbers and satellites: seven numbers name one each, and no other number names any.
 -- Assumes nothing.
 use Prim.Native.Nat.{ℕ, zero, suc, _≤_, _<_}
+use native.Mathlib.Omega.{arith}
 use mathlib.Core.Path.{_≡_, refl, sym, _∙_, ap, subst}
 use mathlib.Core.List.{map}
 use lib.Dec.{lit≤}
@@ -9,7 +10,7 @@ use Rattle.satellites.specs.declared.Satellite.{Satellite}
 use Rattle.satellites.specs.declared.Satellite.the-variants.{HadesD, HadesIcm, MariaG, Unne1, HadesR, Unne1b, HadesSa}
 use Rattle.satellites.specs.declared.Known.{Known}
 use Rattle.satellites.specs.declared.Known.the-variants.{Is, Unknown}
-use Rattle.satellites.specs.Satellites.{numberOf, seven, known, trainingOf, typeByteAt}
+use Rattle.satellites.specs.Satellites.{numberOf, addressOf, seven, known, trainingOf, typeByteAt}
 
 -- the satellite that its number names is itself
 pub known-number : (s : Satellite) → known (numberOf s) ≡ Is s
@@ -76,3 +77,24 @@ type-byte-most Unne1 = lit≤ tt
 type-byte-most HadesR = lit≤ tt
 type-byte-most Unne1b = lit≤ tt
 type-byte-most HadesSa = lit≤ tt
+
+-- every address fits its four bits
+pub address-most : (s : Satellite) → addressOf s < 16
+address-most HadesD = lit≤ tt
+address-most HadesIcm = lit≤ tt
+address-most MariaG = lit≤ tt
+address-most Unne1 = lit≤ tt
+address-most HadesR = lit≤ tt
+address-most Unne1b = lit≤ tt
+address-most HadesSa = lit≤ tt
+
+-- every number up to 6 names a satellite
+pub known-below : (n : ℕ) → n < 7 → (s : Satellite) × (known n ≡ Is s)
+known-below zero h = (HadesD, refl)
+known-below (suc zero) h = (HadesIcm, refl)
+known-below (suc (suc zero)) h = (MariaG, refl)
+known-below (suc (suc (suc zero))) h = (Unne1, refl)
+known-below (suc (suc (suc (suc zero)))) h = (HadesR, refl)
+known-below (suc (suc (suc (suc (suc zero))))) h = (Unne1b, refl)
+known-below (suc (suc (suc (suc (suc (suc zero)))))) h = (HadesSa, refl)
+known-below (suc (suc (suc (suc (suc (suc (suc n))))))) h = absurd (omega arith)

@@ -132,6 +132,20 @@ allowed-distances r t =
     let h = ltb→lt (r .near) (r .far) (and-yes (leb 1 (r .near)) (ltb (r .near) (r .far)) (p .0) .1) in
     (omega arith, omega arith)
 
+pub length-answer : (way : Direction) (r : Register) (xs : List ℕ) → length (partAnswer way r xs) ≡ length xs
+length-answer way r xs = by (allowed r)
+  where
+    by : (ok : Bool) → length (cond ok (partThrough way r xs) xs) ≡ length xs
+    by true = length-part way r xs
+    by false = refl
+
+pub bytes-answer : (way : Direction) (r : Register) (xs : List ℕ) → Bytes xs → Bytes (partAnswer way r xs)
+bytes-answer way r xs b = by (allowed r)
+  where
+    by : (ok : Bool) → Bytes (cond ok (partThrough way r xs) xs)
+    by true = bytes-part way r xs
+    by false = b
+
 pub answer-inverse : (way : Direction) (r : Register) (xs : List ℕ) → Bytes xs → partAnswer (opposite way) r (partAnswer way r xs) ≡ xs
 answer-inverse way r xs b = by (allowed r)
   where

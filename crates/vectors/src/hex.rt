@@ -95,3 +95,9 @@ pub(crate) fn print_number(n: u32, count: u32) {
     }
     print_byte((n % 256) as u8);
 }
+
+// The same with a blank ahead.
+pub(crate) fn print_next(n: u32, count: u32) {
+    io::write_all(STDOUT_FILENO, b" ");
+    print_number(n, count);
+}

@@ -1,4 +1,5 @@
-// One question: its word, its parameters, and what the leaf answers.
+// One question: its word, its parameters, and what the leaf answers. Those about whole frames stand in `frame`.
+use crate::frame;
 use crate::hex;
 use crate::text;
 use libc::STDOUT_FILENO;
@@ -44,12 +45,16 @@ fn ask(word: &[u8], data: &mut [u8]) {
         replace(data);
     } else if check::same(word, b"satellite") {
         satellite(data);
+    } else if check::same(word, b"read") {
+        frame::read(data);
+    } else if check::same(word, b"write") {
+        frame::write(data);
     } else {
         malformed();
     }
 }
 
-fn malformed() {
+pub(crate) fn malformed() {
     io::write_all(STDOUT_FILENO, b"?");
 }
 
@@ -124,17 +129,12 @@ fn satellite(data: &[u8]) {
 // Training and place are far below 256: each is a byte here.
 fn print_satellite(satellite: Satellite) {
     hex::print_number(satellite.number(), 1);
-    print_next(satellite.address() as u32);
-    print_next((satellite.training() % 256) as u32);
+    hex::print_next(satellite.address() as u32, 1);
+    hex::print_next((satellite.training() % 256) as u32, 1);
     if satellite.has_size_byte() {
-        print_next(1);
+        hex::print_next(1, 1);
     } else {
-        print_next(0);
+        hex::print_next(0, 1);
     }
-    print_next((satellite.type_byte_at() % 256) as u32);
-}
-
-fn print_next(byte: u32) {
-    io::write_all(STDOUT_FILENO, b" ");
-    hex::print_number(byte, 1);
+    hex::print_next((satellite.type_byte_at() % 256) as u32, 1);
 }

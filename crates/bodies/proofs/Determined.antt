@@ -1,0 +1,17 @@
+-- Any two results that a public function's contract allows for one input are equal. `Post` is the contract's own text, as
+-- the check reads it: the arguments, the result, and the parameters at exit.
+-- Assumes nothing.
+use mathlib.Core.Path.{_≡_, sym, _∙_}
+use denote.Ref.{now}
+use Rattle.bodies.proofs.read.Reads as read
+use Rattle.bodies.proofs.fitting.Reads as fitting
+use Rattle.bodies.proofs.write.Reads as write
+
+pub read-determined : (κs a r r′ s s′ : _) → read.Post κs a r s → read.Post κs a r′ s′ → now (s .1 .1 .0) ≡ now (s′ .1 .1 .0)
+read-determined κs a r r′ s s′ p q = p ∙ sym q
+
+pub fitting-determined : (κs a r r′ s s′ : _) → fitting.Post κs a r s → fitting.Post κs a r′ s′ → r ≡ r′
+fitting-determined κs a r r′ s s′ p q = p ∙ sym q
+
+pub write-determined : (κs a r r′ s s′ : _) → write.Post κs a r s → write.Post κs a r′ s′ → now (s .1 .1 .0) ≡ now (s′ .1 .1 .0)
+write-determined κs a r r′ s s′ p q = p ∙ sym q

@@ -1,0 +1,192 @@
+-- Frames whose parts are right and answers that accept, each from the other; and values there and back.
+-- Assumes nothing.
+use Prim.Native.Nat.{ℕ, _+_, _-_, _/_, _%_, _≤_, _<_}
+use native.Mathlib.Omega.{arith}
+use mathlib.Core.Path.{_≡_, sym, _∙_, ap, ap₂}
+use mathlib.Core.Bool.{true}
+use mathlib.Core.List.{List, _++_}
+use lib.Dec.{eqb}
+use lib.ListN.{length, getD, take, drop, length-append, length-drop, List·getD-append}
+use lib.Seq.{take-at, drop-at}
+use borrow.Author.Tests.{leb-true, eqb-true}
+use Rattle.bits.specs.Bits.{bitsOf, field, Bytes}
+use Rattle.checksum.specs.Checksum.{checksum}
+use Rattle.scrambler.specs.declared.Register.{Register}
+use Rattle.satellites.specs.declared.Satellite.{Satellite}
+use Rattle.satellites.specs.declared.Known.the-variants.{Is}
+use Rattle.satellites.specs.Satellites.{addressOf, trainingOf, sizeByteOf, typeByteAt}
+use Rattle.layouts.specs.Layouts.{carries, entryOf, widthAt, startAt}
+use Rattle.bodies.specs.Bodies.{told, fitting}
+use Rattle.bodies.proofs.Laws.{length-told, told-at, fitting-told}
+use Rattle.frames.specs.Tests.{refusal, same}
+use Rattle.frames.specs.Frames.{training, sync, typeByte, frameOf, frameLength, fromTypeByte, checksumIn, clearBody, clear, typeOf, entryIn, valuesOf}
+use Rattle.frames.specs.Reading.{frontTests, readingTests, acceptedReading, reading, roomAfter}
+use Rattle.frames.specs.Writing.{writingTests, acceptedWriting, writing, outputAfter}
+use Rattle.frames.proofs.Fronts as fronts
+use Rattle.frames.proofs.Readings as readings
+use Rattle.frames.proofs.Writings as writings
+use Rattle.frames.proofs.Assembled.{three-least}
+use Rattle.frames.proofs.Wholes.{frame-again, its-length, values-again}
+use Rattle.frames.proofs.Answers as answers
+use Rattle.frames.proofs.Answers.{below, equal, same-bytes, both, only-where}
+
+module _ (r : Register) (s : Satellite) (frame room : List ℕ) where
+  abbrev part : List ℕ
+  part = fromTypeByte s frame
+
+  -- ---- what an accepting answer tells
+
+  module _ (t n : ℕ) (answer : reading r (Is s) frame room ≡ acceptedReading t n) where
+    typed : typeOf s frame ≡ t
+    typed = answers.its-type r s frame room t n answer
+
+    count : length (entryIn s frame .widths) ≡ n
+    count = ap (λ (u : ℕ). length (entryOf s u .widths)) typed ∙ answers.its-count r s frame room t n answer
+
+    values-length : length (valuesOf r s frame) ≡ n
+    unfolding valuesOf
+    values-length = length-told (entryIn s frame .widths) (bitsOf (clearBody r part)) ∙ count
+
+    enough : n ≤ length room
+    unfolding readingTests frontTests
+    enough =
+        omega (
+          arith,
+          count,
+          leb-true (length (entryIn s frame .widths)) (length room) (answers.all-held r s frame room t n answer 7 (omega arith)),
+        )
+
+    pub value-at : (i : ℕ) → i < n
+        → getD (roomAfter r (Is s) frame room) i 0 ≡ field (startAt (entryOf s t .widths) i) (widthAt (entryOf s t .widths) i) (clearBody r part)
+    unfolding field valuesOf
+    value-at i h =
+        ap (λ (l : List ℕ). getD l i 0) (answers.its-room r s frame room t n answer)
+        ∙ List·getD-append (valuesOf r s frame) (drop n room) 0 i (omega (arith, h, values-length))
+        ∙ told-at (entryIn s frame .widths) (bitsOf (clearBody r part)) i (omega (arith, h, count))
+        ∙ ap (λ (u : ℕ). field (startAt (entryOf s u .widths) i) (widthAt (entryOf s u .widths) i) (clearBody r part)) typed
+
+    pub room-length : length (roomAfter r (Is s) frame room) ≡ length room
+    room-length =
+        ap length (answers.its-room r s frame room t n answer)
+        ∙ length-append (valuesOf r s frame) (drop n room) ∙ omega (arith, values-length, enough, length-drop n room)
+
+    pub room-behind : drop n (roomAfter r (Is s) frame room) ≡ drop n room
+    room-behind = ap (drop n) (answers.its-room r s frame room t n answer) ∙ drop-at (valuesOf r s frame) (drop n room) n values-length
+
+    values-read : take n (roomAfter r (Is s) frame room) ≡ told (entryOf s t .widths) (bitsOf (clearBody r part))
+    unfolding valuesOf
+    values-read =
+        ap (take n) (answers.its-room r s frame room t n answer)
+        ∙ take-at (valuesOf r s frame) (drop n room) n values-length
+        ∙ ap (λ (u : ℕ). told (entryOf s u .widths) (bitsOf (clearBody r part))) typed
+
+  -- ---- a frame whose parts are right
+
+  module _ (t : ℕ) (carried : carries s t ≡ true)
+      (trained : take (trainingOf s) frame ≡ training s)
+      (synced : take 2 (drop (trainingOf s) frame) ≡ sync)
+      (address : getD frame (typeByteAt s) 0 % 16 ≡ addressOf s)
+      (high : getD frame (typeByteAt s) 0 / 16 ≡ t)
+      (sized : sizeByteOf s ≡ true → getD frame (typeByteAt s - 1) 0 ≡ entryOf s t .size)
+      (long : length frame ≡ frameLength s t)
+      (right : checksumIn part ≡ checksum (clear r part)) where
+    its-type : typeOf s frame ≡ t
+    its-type = ap (λ (x : ℕ). x / 16) (fronts.first-at (typeByteAt s) frame) ∙ high
+
+    front : refusal (frontTests s frame) ≡ 0
+    front =
+        fronts.none-fails s frame
+        (below (typeByteAt s) (length frame) .1 (omega (arith, long, three-least s t carried)))
+        (both (same (take (trainingOf s) frame) (training s)) (same (take 2 (drop (trainingOf s) frame)) sync)
+        (same-bytes (take (trainingOf s) frame) (training s)) (same-bytes (take 2 (drop (trainingOf s) frame)) sync) .1
+        (trained, synced))
+        (equal (getD part 0 0 % 16) (addressOf s) .1 (ap (λ (x : ℕ). x % 16) (fronts.first-at (typeByteAt s) frame) ∙ address))
+        (ap (carries s) its-type ∙ carried)
+        (only-where (sizeByteOf s) (eqb (getD frame (typeByteAt s - 1) 0) (entryIn s frame .size))
+        (equal (getD frame (typeByteAt s - 1) 0) (entryIn s frame .size)) .1
+        (λ has. sized has ∙ sym (ap (λ (u : ℕ). entryOf s u .size) its-type)))
+
+    pub right-accepted : length (entryOf s t .widths) ≤ length room
+        → reading r (Is s) frame room ≡ acceptedReading t (length (entryOf s t .widths))
+    right-accepted roomy =
+        let same-count = ap (λ (u : ℕ). length (entryOf s u .widths)) its-type in
+        let none = readings.none-fails r s frame room front (long ∙ ap (frameLength s) (sym its-type)) (omega (arith, same-count, roomy))
+        (equal (checksumIn part) (checksum (clear r part)) .1 right) in
+        sym (readings.accepted-with r s frame room none .0) ∙ ap (λ (u : ℕ). acceptedReading u (length (entryOf s u .widths))) its-type
+
+    -- what was read of it, written
+    pub rewritten : (n : ℕ) → reading r (Is s) frame room ≡ acceptedReading t n → Bytes frame → (output : List ℕ)
+        → length frame ≤ length output
+        → let values = take n (roomAfter r (Is s) frame room) in
+        (writing (Is s) t values output ≡ acceptedWriting (length frame))
+        × (outputAfter r (Is s) t values output ≡ frame ++ drop (length frame) output)
+    rewritten n answer b output fills =
+        let ws = entryOf s t .widths in
+        let bs = bitsOf (clearBody r part) in
+        let values = take n (roomAfter r (Is s) frame room) in
+        let its-values = values-read t n answer in
+        let byte : getD frame (typeByteAt s) 0 ≡ typeByte s t = omega (arith, high, address) in
+        let again = ap (frameOf r s t) its-values ∙ frame-again r s t carried frame b trained synced byte sized long right in
+        let none = writings.none-fails r s t values output carried (ap length its-values ∙ length-told ws bs)
+        (ap (fitting ws) its-values ∙ fitting-told ws bs) (omega (arith, fills, long)) in
+        let told = writings.accepted-with r s t values output none in (
+          sym (told .0) ∙ ap acceptedWriting (sym long),
+          sym (told .1) ∙ ap₂ (λ (l : List ℕ) (m : ℕ). l ++ drop m output) again (sym long),
+        )
+
+-- ---- a frame that was written
+
+module _ (r : Register) (s : Satellite) (t n : ℕ) (values output : List ℕ) (answer : writing (Is s) t values output ≡ acceptedWriting n) where
+  abbrev written : List ℕ
+  written = frameOf r s t values
+
+  pub was-carried : carries s t ≡ true
+  unfolding writingTests
+  was-carried = answers.all-kept r s t values output n answer 1 (omega arith)
+
+  as-many : length values ≡ length (entryOf s t .widths)
+  unfolding writingTests
+  as-many = eqb-true (length values) (length (entryOf s t .widths)) (answers.all-kept r s t values output n answer 2 (omega arith))
+
+  all-fit : fitting (entryOf s t .widths) values ≡ length (entryOf s t .widths)
+  unfolding writingTests
+  all-fit =
+      eqb-true (fitting (entryOf s t .widths) values) (length (entryOf s t .widths)) (answers.all-kept r s t values output n answer 3 (omega arith))
+
+  fills : frameLength s t ≤ length output
+  unfolding writingTests
+  fills = leb-true (frameLength s t) (length output) (answers.all-kept r s t values output n answer 4 (omega arith))
+
+  written-length : length written ≡ n
+  written-length = its-length r s t was-carried values ∙ answers.its-frame r s t values output n answer
+
+  pub output-front : take n (outputAfter r (Is s) t values output) ≡ written
+  output-front = ap (take n) (answers.its-output r s t values output n answer) ∙ take-at written (drop n output) n written-length
+
+  pub output-behind : drop n (outputAfter r (Is s) t values output) ≡ drop n output
+  output-behind = ap (drop n) (answers.its-output r s t values output n answer) ∙ drop-at written (drop n output) n written-length
+
+  pub output-length : length (outputAfter r (Is s) t values output) ≡ length output
+  output-length =
+      ap length (answers.its-output r s t values output n answer)
+      ∙ length-append written (drop n output)
+      ∙ omega (arith, written-length, answers.its-frame r s t values output n answer, fills, length-drop n output)
+
+  -- read again, where reading accepts it
+  pub reread : (room : List ℕ) → length values ≤ length room
+      → (length (entryOf s t .widths) ≤ length room → reading r (Is s) written room ≡ acceptedReading t (length (entryOf s t .widths)))
+      → let frame = take n (outputAfter r (Is s) t values output) in
+      (reading r (Is s) frame room ≡ acceptedReading t (length values)) × (roomAfter r (Is s) frame room ≡ values ++ drop (length values) room)
+  unfolding valuesOf
+  reread room roomy accepts =
+      let ws = entryOf s t .widths in
+      let read = accepts (omega (arith, as-many, roomy)) in
+      let its = answers.its-type r s written room t (length ws) read in (
+        ap (λ (f : List ℕ). reading r (Is s) f room) output-front ∙ read ∙ ap (acceptedReading t) (sym as-many),
+        ap (λ (f : List ℕ). roomAfter r (Is s) f room) output-front
+            ∙ answers.its-room r s written room t (length ws) read
+            ∙ ap₂ (λ (l : List ℕ) (m : ℕ). l ++ drop m room)
+            (ap (λ (u : ℕ). told (entryOf s u .widths) (bitsOf (clearBody r (fromTypeByte s written)))) its
+            ∙ values-again r s t was-carried values as-many all-fit)
+            (sym as-many),
+      )

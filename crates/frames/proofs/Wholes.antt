@@ -1,0 +1,158 @@
+-- Whole frames: one whose parts are right is the frame of its values, and the frame of any values has the right parts.
+-- Assumes nothing.
+use Prim.Native.Nat.{ℕ, _+_, _-_}
+use native.Mathlib.Omega.{arith}
+use mathlib.Core.Path.{_≡_, refl, sym, _∙_, ap, ap₂}
+use mathlib.Core.Bool.{Bool, true, false, cond}
+use mathlib.Core.List.{List, [], _∷_, _++_, append-assoc}
+use lib.ListN.{length, getD, take, drop, length-append, length-drop, length-replicate, List·getD-append, take-append-drop}
+use lib.Seq.{take-at, drop-at, take-add, drop-cons, getD-append-add}
+use Rattle.bits.specs.Bits.{bitsOf, packed, Bytes}
+use Rattle.bits.proofs.Bytes.{length-bitsOf, length-packed, packed-bitsOf, bitsOf-packed, packed-bytes}
+use Rattle.bits.proofs.Fields.{drop-bytes, take-bytes}
+use Rattle.checksum.specs.Checksum.{checksum}
+use Rattle.scrambler.specs.declared.Register.{Register}
+use Rattle.scrambler.specs.declared.Direction.the-variants.{Unscramble}
+use Rattle.scrambler.proofs.Parts.{length-answer, bytes-answer}
+use Rattle.satellites.specs.declared.Satellite.{Satellite}
+use Rattle.satellites.specs.Satellites.{trainingOf, sizeByteOf, typeByteAt}
+use Rattle.layouts.specs.Layouts.{total, carries, entryOf}
+use Rattle.layouts.proofs.Entries.{tiles-body}
+use Rattle.bodies.specs.Bodies.{told, tiled, fitting}
+use Rattle.bodies.proofs.Laws.{length-tiled, told-tiled, tiled-told}
+use Rattle.frames.specs.Frames.{training, sync, sizeByte, ahead, typeByte, sealed, bodyOf, frameOf, frameLength, fromTypeByte, checksumIn, bodyIn, covered, clearBody, clear}
+use Rattle.frames.proofs.Fronts.{first-at}
+use Rattle.frames.proofs.Preambles.{length-ahead}
+use Rattle.frames.proofs.Parts.{length-body, length-sealed}
+use Rattle.frames.proofs.Assembled.{three-least, size-least}
+use Rattle.frames.proofs.Seals.{sealed-checksum, sealed-first, sealed-clear, clear-sealed}
+
+module _ (r : Register) (s : Satellite) (t : ℕ) (carried : carries s t ≡ true) where
+  abbrev ws : List ℕ
+  ws = entryOf s t .widths
+
+  abbrev size : ℕ
+  size = entryOf s t .size
+
+  -- ---- a frame whose parts are right
+
+  module _ (frame : List ℕ) (b : Bytes frame)
+      (trained : take (trainingOf s) frame ≡ training s)
+      (synced : take 2 (drop (trainingOf s) frame) ≡ sync)
+      (typed : getD frame (typeByteAt s) 0 ≡ typeByte s t)
+      (sized : sizeByteOf s ≡ true → getD frame (typeByteAt s - 1) 0 ≡ size)
+      (long : length frame ≡ frameLength s t)
+      (right : checksumIn (fromTypeByte s frame) ≡ checksum (clear r (fromTypeByte s frame))) where
+    abbrev part : List ℕ
+    part = fromTypeByte s frame
+
+    part-length : length part ≡ size
+    part-length = length-drop (typeByteAt s) frame ∙ omega (arith, long)
+
+    -- what stands ahead of the type byte
+    preamble : take (trainingOf s + 2) frame ≡ training s ++ sync
+    preamble = take-add (trainingOf s) 2 frame ∙ ap₂ _++_ trained synced
+
+    size-byte : (has : Bool) → sizeByteOf s ≡ has
+        → take (cond has 1 0) (drop (trainingOf s + 2) frame) ≡ cond has (size ∷ []) []
+    size-byte false none = refl
+    size-byte true has =
+        let at : typeByteAt s ≡ trainingOf s + 2 + 1 = ap (λ (b : Bool). trainingOf s + 2 + cond b 1 0) has in
+        let ahead-of : typeByteAt s - 1 ≡ trainingOf s + 2 = omega (arith, at) in
+        ap (take 1) (drop-cons frame (trainingOf s + 2) 0 (omega (arith, long, at)))
+        ∙ ap (λ (x : ℕ). x ∷ []) (ap (λ (k : ℕ). getD frame k 0) (sym ahead-of) ∙ sized has)
+
+    is-ahead : take (typeByteAt s) frame ≡ ahead s size
+    is-ahead =
+        take-add (trainingOf s + 2) (cond (sizeByteOf s) 1 0) frame
+        ∙ ap₂ _++_ preamble (size-byte (sizeByteOf s) refl)
+        ∙ append-assoc (training s) sync (sizeByte s size)
+
+    -- the body that its values make
+    clear-length : length (clearBody r part) + 3 ≡ size
+    unfolding clearBody
+    clear-length =
+        ap (λ (n : ℕ). n + 3) (length-answer Unscramble r (bodyIn part))
+        ∙ length-body part (omega (arith, part-length, three-least s t carried)) ∙ part-length
+
+    clear-bytes : Bytes (clearBody r part)
+    unfolding clearBody
+    clear-bytes =
+        bytes-answer Unscramble r (bodyIn part)
+        (drop-bytes 1 (covered part) (take-bytes (length part - 2) part (drop-bytes (typeByteAt s) frame b)))
+
+    body-again : bodyOf (entryOf s t) (told ws (bitsOf (clearBody r part))) ≡ clearBody r part
+    body-again =
+        let body = clearBody r part in
+        let bytes : size - 3 ≡ length body = omega (arith, clear-length) in
+        let all : length (bitsOf body) ≡ total ws = length-bitsOf body ∙ omega (arith, clear-length, tiles-body s t carried) in
+        ap₂ packed bytes (tiled-told ws (bitsOf body) all) ∙ packed-bitsOf body clear-bytes
+
+    pub frame-again : frameOf r s t (told ws (bitsOf (clearBody r part))) ≡ frame
+    unfolding frameOf
+    frame-again =
+        ap₂ _++_ (sym is-ahead)
+        (ap₂ (sealed r) (sym (first-at (typeByteAt s) frame ∙ typed)) body-again
+        ∙ clear-sealed r part (omega (arith, part-length, three-least s t carried)) (drop-bytes (typeByteAt s) frame b) right)
+        ∙ take-append-drop (typeByteAt s) frame
+
+  -- ---- the frame of values that fit
+
+  module _ (values : List ℕ) where
+    abbrev body : List ℕ
+    body = bodyOf (entryOf s t) values
+
+    abbrev frame : List ℕ
+    frame = frameOf r s t values
+
+    behind : drop (typeByteAt s) frame ≡ sealed r (typeByte s t) body
+    unfolding frameOf
+    behind = drop-at (ahead s size) (sealed r (typeByte s t) body) (typeByteAt s) (length-ahead s size)
+
+    pub its-length : length frame ≡ frameLength s t
+    unfolding frameOf
+    its-length =
+        length-append (ahead s size) (sealed r (typeByte s t) body)
+        ∙ ap₂ _+_ (length-ahead s size)
+        (length-sealed r (typeByte s t) body ∙ ap (λ (n : ℕ). n + 3) (length-packed (size - 3) (tiled ws values)) ∙ omega (arith, three-least s t carried))
+
+    pub its-training : take (trainingOf s) frame ≡ training s
+    unfolding frameOf
+    its-training =
+        ap (take (trainingOf s)) (append-assoc (training s) (sync ++ sizeByte s size) (sealed r (typeByte s t) body))
+        ∙ take-at (training s) _ (trainingOf s) (length-replicate (trainingOf s) 0xAA)
+
+    pub its-sync : take 2 (drop (trainingOf s) frame) ≡ sync
+    unfolding frameOf
+    its-sync =
+        ap (λ (l : List ℕ). take 2 (drop (trainingOf s) l)) (append-assoc (training s) (sync ++ sizeByte s size) (sealed r (typeByte s t) body))
+        ∙ ap (take 2) (drop-at (training s) _ (trainingOf s) (length-replicate (trainingOf s) 0xAA))
+
+    pub its-type-byte : getD frame (typeByteAt s) 0 ≡ typeByte s t
+    its-type-byte = sym (first-at (typeByteAt s) frame) ∙ ap (λ (l : List ℕ). getD l 0 0) behind ∙ sealed-first r (typeByte s t) body
+
+    pub its-size-byte : sizeByteOf s ≡ true → getD frame (typeByteAt s - 1) 0 ≡ size
+    unfolding frameOf
+    its-size-byte has =
+        let at : typeByteAt s ≡ trainingOf s + 2 + 1 = ap (λ (b : Bool). trainingOf s + 2 + cond b 1 0) has in
+        let all : length (training s) ≡ trainingOf s = length-replicate (trainingOf s) 0xAA in
+        let place : typeByteAt s - 1 ≡ length (training s) + 2 = omega (arith, at, all) in
+        ap (λ (k : ℕ). getD frame k 0) place
+        ∙ List·getD-append (ahead s size) (sealed r (typeByte s t) body) 0 (length (training s) + 2) (omega (arith, length-ahead s size, at, all))
+        ∙ ap (λ (b : Bool). getD (training s ++ (sync ++ cond b (size ∷ []) [])) (length (training s) + 2) 0) has
+        ∙ getD-append-add (training s) (sync ++ (size ∷ [])) 2 0
+
+    pub its-checksum : checksumIn (fromTypeByte s frame) ≡ checksum (clear r (fromTypeByte s frame))
+    its-checksum =
+        ap checksumIn behind ∙ sealed-checksum r (typeByte s t) body
+        ∙ ap checksum (ap₂ _∷_ (sym (ap (λ (l : List ℕ). getD l 0 0) behind ∙ sealed-first r (typeByte s t) body)) (sym clear-again))
+      where
+        clear-again : clearBody r (fromTypeByte s frame) ≡ body
+        clear-again = ap (clearBody r) behind ∙ sealed-clear r (typeByte s t) body (packed-bytes (size - 3) (tiled ws values))
+
+    pub values-again : length values ≡ length ws → fitting ws values ≡ length ws → told ws (bitsOf (clearBody r (fromTypeByte s frame))) ≡ values
+    values-again as-many fit =
+        ap (λ (l : List ℕ). told ws (bitsOf l))
+        (ap (clearBody r) behind ∙ sealed-clear r (typeByte s t) body (packed-bytes (size - 3) (tiled ws values)))
+        ∙ ap (told ws) (bitsOf-packed (size - 3) (tiled ws values) (length-tiled ws values ∙ sym (size-least s t carried)))
+        ∙ told-tiled ws values as-many fit

@@ -1,0 +1,64 @@
+-- `frames::read` meets its contract.
+-- Assumes nothing.
+use mathlib.Core.Path.{sym, _∙_, ap}
+use denote.Ref.{now}
+use Rattle.scrambler.specs.Scrambler.{restarted}
+use Rattle.satellites.specs.declared.Known.{Known}
+use Rattle.frames.specs.Reading.{reading, roomAfter}
+use Rattle.frames.proofs.Readings.{unknown-refused}
+use borrow.Author.Needs.{needs}
+use Rattle.frames.proofs.read.Statement.{statement}
+use Rattle.frames.proofs.read.Tie as tie
+use Rattle.frames.proofs.read.Reads as reads
+use Rattle.frames.proofs.read.Lts as lts
+use Rattle.frames.proofs.reader.read.Reads as read-reads
+use Rattle.frames.proofs.reader.refused.Reads as refused-reads
+use Rattle.satellites.proofs.Satellite.from_number.Reads as from-number-reads
+
+from-number-requires : tie.Need-from-number-requires
+from-number-requires c κs = search needs
+
+enum-known-named : tie.Need-enum-known-named
+enum-known-named c = search needs
+
+read-requires : tie.Need-read-requires
+read-requires c κs = search needs
+
+enum-told : tie.Need-enum-told
+enum-told c = search needs
+
+refused-requires : tie.Need-refused-requires
+refused-requires c κs = search needs
+
+same-length : tie.Need-same-length
+same-length c = search needs
+
+returns : tie.Need-returns
+returns c =
+    let a = c .before .before .before .before .before .before .before .before .before .before .args in
+    let its = sym (c .before .before .before .before .before .named .given .1) ∙ c .before .before .before .before .before .before .before .from-number .ensures in (
+      c .before .before .read .ensures .0 ∙ ap (λ (k : Known). reading restarted k (now (a .frame)) (now (a .room))) its,
+      c .before .before .read .ensures .1 ∙ ap (λ (k : Known). roomAfter restarted k (now (a .frame)) (now (a .room))) its,
+    )
+
+returns-2 : tie.Need-returns-2
+returns-2 c =
+    let a = c .before .before .before .before .before .before .args in
+    let its = sym (c .before .enum-told .given .1) ∙ c .before .before .before .from-number .ensures in
+    let told = unknown-refused restarted (now (a .frame)) (now (a .room)) in (
+      c .refused .ensures ∙ told .0 ∙ ap (λ (k : Known). reading restarted k (now (a .frame)) (now (a .room))) its,
+      told .1 ∙ ap (λ (k : Known). roomAfter restarted k (now (a .frame)) (now (a .room))) its,
+    )
+
+pub read-spec : {M : Type 1} → statement M
+read-spec =
+    tie.close
+    (tie.spec
+    from-number-requires
+    enum-known-named
+    read-requires
+    enum-told
+    refused-requires
+    same-length
+    returns
+    returns-2)

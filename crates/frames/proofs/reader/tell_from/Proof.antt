@@ -1,0 +1,87 @@
+-- `frames::reader::tell_from` meets its contract.
+-- Assumes nothing.
+use mathlib.Core.Path.{sym, _∙_, refl, ap}
+use Prim.Native.Nat.{ℕ, _-_}
+use mathlib.Core.List.{List}
+use lib.ListN.{length, drop}
+use Rattle.scrambler.specs.Scrambler.{restarted}
+use Rattle.bodies.specs.Bodies.{filled, valuesFrom, widthsIn}
+use Rattle.frames.proofs.Parts.{told-body}
+use denote.Ref.{now}
+use borrow.Author.Needs.{needs}
+use Rattle.frames.proofs.reader.tell_from.Statement.{statement}
+use Rattle.frames.proofs.reader.tell_from.Tie as tie
+use Rattle.frames.proofs.reader.tell_from.Reads as reads
+use Rattle.frames.proofs.reader.tell_from.Lts as lts
+use Rattle.bodies.proofs.read.Reads as read-reads
+use Rattle.frames.proofs.clear.unscrambled.Reads as unscrambled-reads
+
+sub-end : tie.Need-sub-end
+sub-end c = search needs
+
+sub-unscrambled : tie.Need-sub-unscrambled
+sub-unscrambled c = search needs
+
+part-unscrambled-start : tie.Need-part-unscrambled-start
+part-unscrambled-start c = search needs
+
+part-unscrambled-end : tie.Need-part-unscrambled-end
+part-unscrambled-end c = search needs
+
+unscrambled-requires : tie.Need-unscrambled-requires
+unscrambled-requires c κs = search needs
+
+sub-read : tie.Need-sub-read
+sub-read c = search needs
+
+part-read-start : tie.Need-part-read-start
+part-read-start c = search needs
+
+part-read-end : tie.Need-part-read-end
+part-read-end c = search needs
+
+read-requires : tie.Need-read-requires
+read-requires c κs = search needs
+
+same-length : tie.Need-same-length
+same-length c = search needs
+
+same-length-2 : tie.Need-same-length-2
+same-length-2 c = search needs
+
+returns : tie.Need-returns
+returns c =
+    let a = c .before .before .before .before .before .before .before .before .before .before .before .before .before .before .args in
+    let pre = c .before .before .before .before .before .before .before .before .before .before .before .before .before .before .pre in
+    let told = c .before .before .before .before .before .before .before .before .before .unscrambled in (
+      sym (c .before .before .before .before .before .before .if1 .taken) ∙ told .ensures .0,
+      c .before .before .read .ensures
+          ∙ ap (λ (l : List ℕ). filled (valuesFrom 0 (widthsIn (a .layout)) l) (now (a .room)))
+          (told-body restarted (now (a .sent)) (told .last .1 .0) (drop (length (now (a .sent)) - 0) (now (a .copy))) (pre .0) (told .ensures .1)),
+    )
+
+same-length-3 : tie.Need-same-length-3
+same-length-3 c = search needs
+
+returns-2 : tie.Need-returns-2
+returns-2 c =
+    (sym (c .if1 .left) ∙ c .before .before .before .unscrambled .ensures .0, refl)
+
+pub tell-from-spec : {M : Type 1} → statement M
+tell-from-spec =
+    tie.close
+    (tie.spec
+    sub-end
+    sub-unscrambled
+    part-unscrambled-start
+    part-unscrambled-end
+    unscrambled-requires
+    sub-read
+    part-read-start
+    part-read-end
+    read-requires
+    same-length
+    same-length-2
+    returns
+    same-length-3
+    returns-2)

@@ -1,0 +1,64 @@
+-- `frames::write` meets its contract.
+-- Assumes nothing.
+use mathlib.Core.Path.{sym, _∙_, ap}
+use denote.Ref.{now}
+use Rattle.scrambler.specs.Scrambler.{restarted}
+use Rattle.satellites.specs.declared.Known.{Known}
+use Rattle.frames.specs.Writing.{writing, outputAfter}
+use Rattle.frames.proofs.Writings.{unknown-refused}
+use borrow.Author.Needs.{needs}
+use Rattle.frames.proofs.write.Statement.{statement}
+use Rattle.frames.proofs.write.Tie as tie
+use Rattle.frames.proofs.write.Reads as reads
+use Rattle.frames.proofs.write.Lts as lts
+use Rattle.frames.proofs.writer.refused.Reads as refused-reads
+use Rattle.frames.proofs.writer.write.Reads as write-reads
+use Rattle.satellites.proofs.Satellite.from_number.Reads as from-number-reads
+
+from-number-requires : tie.Need-from-number-requires
+from-number-requires c κs = search needs
+
+enum-known-named : tie.Need-enum-known-named
+enum-known-named c = search needs
+
+write-requires : tie.Need-write-requires
+write-requires c κs = search needs
+
+enum-told : tie.Need-enum-told
+enum-told c = search needs
+
+refused-requires : tie.Need-refused-requires
+refused-requires c κs = search needs
+
+same-length : tie.Need-same-length
+same-length c = search needs
+
+returns : tie.Need-returns
+returns c =
+    let a = c .before .before .before .before .before .before .before .before .before .before .args in
+    let its = sym (c .before .before .before .before .before .named .given .1) ∙ c .before .before .before .before .before .before .before .from-number .ensures in (
+      c .before .before .write .ensures .0 ∙ ap (λ (k : Known). writing k (a .ty) (now (a .values)) (now (a .output))) its,
+      c .before .before .write .ensures .1 ∙ ap (λ (k : Known). outputAfter restarted k (a .ty) (now (a .values)) (now (a .output))) its,
+    )
+
+returns-2 : tie.Need-returns-2
+returns-2 c =
+    let a = c .before .before .before .before .before .before .args in
+    let its = sym (c .before .enum-told .given .1) ∙ c .before .before .before .from-number .ensures in
+    let told = unknown-refused restarted (a .ty) (now (a .values)) (now (a .output)) in (
+      c .refused .ensures ∙ told .0 ∙ ap (λ (k : Known). writing k (a .ty) (now (a .values)) (now (a .output))) its,
+      told .1 ∙ ap (λ (k : Known). outputAfter restarted k (a .ty) (now (a .values)) (now (a .output))) its,
+    )
+
+pub write-spec : {M : Type 1} → statement M
+write-spec =
+    tie.close
+    (tie.spec
+    from-number-requires
+    enum-known-named
+    write-requires
+    enum-told
+    refused-requires
+    same-length
+    returns
+    returns-2)

@@ -1,0 +1,4 @@
+pub mod Tests
+pub mod Frames
+pub mod Reading
+pub mod Writing

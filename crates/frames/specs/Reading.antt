@@ -1,0 +1,81 @@
+-- Reading (01, "What is refused, and in which order"; FORMAT 7 and 8): the tests in their order, the answer, and the room.
+use Prim.Native.Nat.{ℕ, _-_}
+use mathlib.Core.Bool.{Bool, true, false, not, _&&_, _||_, cond}
+use mathlib.Core.List.{List, [], _∷_, _++_}
+use lib.ListN.{length, getD, take, drop}
+use lib.Dec.{eqb, leb, ltb}
+use Rattle.checksum.specs.Checksum.{checksum}
+use Rattle.scrambler.specs.declared.Register.{Register}
+use Rattle.satellites.specs.declared.Satellite.{Satellite}
+use Rattle.satellites.specs.declared.Known.{Known}
+use Rattle.satellites.specs.declared.Known.the-variants.{Is, Unknown}
+use Rattle.satellites.specs.Satellites.{addressOf, trainingOf, sizeByteOf, typeByteAt}
+use Rattle.layouts.specs.declared.Layout.{Layout}
+use Rattle.layouts.specs.Layouts.{carries, layoutOf}
+use Rattle.bodies.specs.Bodies.{filled, valuesFrom, widthsIn}
+use Rattle.frames.specs.declared.Reading.{Reading}
+use Rattle.frames.specs.declared.front.Front.{Front}
+use Rattle.frames.specs.Tests.{Test, test, refusal, same}
+use Rattle.frames.specs.Frames.{training, sync, frameLength, fromTypeByte, addressIn, checksumIn, clear, typeOf, entryIn, valuesOf}
+
+-- 2 to 6, on a frame's front
+unfoldable pub frontTests : Satellite → List ℕ → List Test
+frontTests s frame =
+    -- "fewer bytes than training, sync, size byte if any, and type byte"
+    test 2 (ltb (typeByteAt s) (length frame))
+    -- "training or sync differs"
+    ∷ test 3 (same (take (trainingOf s) frame) (training s) && same (take 2 (drop (trainingOf s) frame)) sync)
+    -- "address is another's"
+    ∷ test 4 (eqb (addressIn (fromTypeByte s frame)) (addressOf s))
+    -- "type not carried by this satellite"
+    ∷ test 5 (carries s (typeOf s frame))
+    -- "size byte differs from the table", where there is one
+    ∷ test 6 (not (sizeByteOf s) || eqb (getD frame (typeByteAt s - 1) 0) (entryIn s frame .size))
+    ∷ []
+
+-- "buffer length is not the frame's length"
+abbrev pub lengthTest : Satellite → List ℕ → Test
+lengthTest s frame = test 7 (eqb (length frame) (frameLength s (typeOf s frame)))
+
+-- "room for values is less than the field count"
+abbrev pub roomTest : Satellite → List ℕ → List ℕ → Test
+roomTest s frame room = test 8 (leb (length (entryIn s frame .widths)) (length room))
+
+-- "checksum differs"
+abbrev pub checksumTest : Register → Satellite → List ℕ → Test
+checksumTest r s frame = test 9 (eqb (checksumIn (fromTypeByte s frame)) (checksum (clear r (fromTypeByte s frame))))
+
+-- "Reading (satellite, frame, room of 32-bit numbers) tests 1 to 9 in that order": 1, "satellite number above 6", is what
+-- the number names
+unfoldable pub readingTests : Register → Known → List ℕ → List ℕ → List Test
+readingTests r Unknown frame room = test 1 false ∷ []
+readingTests r (Is s) frame room =
+    test 1 true ∷ (frontTests s frame ++ (lengthTest s frame ∷ roomTest s frame room ∷ checksumTest r s frame ∷ []))
+
+-- "It answers the number, the type and the field count"
+abbrev pub acceptedReading : ℕ → ℕ → Reading
+acceptedReading ty count = record { refusal = 0; ty = ty; count = count }
+
+-- "A refusal answers type 0, count 0"
+abbrev pub refusedReading : ℕ → Reading
+refusedReading number = record { refusal = number; ty = 0; count = 0 }
+
+unfoldable pub reading : Register → Known → List ℕ → List ℕ → Reading
+reading r Unknown frame room = refusedReading (refusal (readingTests r Unknown frame room))
+reading r (Is s) frame room =
+    let number = refusal (readingTests r (Is s) frame room) in
+    cond (eqb number 0) (acceptedReading (typeOf s frame) (length (entryIn s frame .widths))) (refusedReading number)
+
+-- "and fills that many places of the room; later places stay"
+unfoldable pub roomAfter : Register → Known → List ℕ → List ℕ → List ℕ
+roomAfter r Unknown frame room = room
+roomAfter r (Is s) frame room =
+    cond (eqb (refusal (readingTests r (Is s) frame room)) 0) (valuesOf r s frame ++ drop (length (entryIn s frame .widths)) room) room
+
+-- what the front of a frame tells: the first test of its own that fails, the type, and what is told of that type
+abbrev pub frontOf : Satellite → List ℕ → Front
+frontOf s frame = record { refusal = refusal (frontTests s frame); ty = typeOf s frame; layout = layoutOf s (typeOf s frame) }
+
+-- the room after a body, where its checksum is right
+abbrev pub toldTo : Bool → Layout → List ℕ → List ℕ → List ℕ
+toldTo right layout body room = cond right (filled (valuesFrom 0 (widthsIn layout) body) room) room

@@ -1,0 +1,83 @@
+// Reading: tests 2 to 9 in their order, and only then the room is filled.
+ghost use mathlib.Core.Path.{_≡_};
+ghost use Prim.Native.Nat.{_≤_};
+ghost use lib.Dec.{eqb};
+ghost use lib.ListN.{length};
+ghost use Rattle.checksum.specs.Checksum.{checksum};
+ghost use Rattle.scrambler.specs.Scrambler.{restarted};
+ghost use Rattle.satellites.specs.declared.Known.the-variants.{Is};
+ghost use Rattle.frames.specs.Frames.{checksumIn, clear, clearBody};
+ghost use Rattle.frames.specs.Reading.{reading, roomAfter, refusedReading, toldTo};
+use crate::Reading;
+use crate::clear;
+use crate::front;
+use crate::refusal;
+use layouts::Layout;
+use satellites::Satellite;
+
+// A size byte can hold the length of any part from type byte to checksum.
+const MOST_BYTES: usize = 255;
+
+pub(crate) fn refused(number: u32) -> Reading
+    ensures { λ r. ⌜ r ≡ refusedReading number ⌝ }
+{
+    Reading {
+        refusal: number,
+        ty: 0,
+        count: 0,
+    }
+}
+
+pub(crate) fn read(satellite: Satellite, frame: &[u8], room: &mut [u32]) -> Reading
+    ensures { λ r. ⌜ r ≡ reading restarted (Is satellite) (now (frame .entry)) (now (room .entry)) ⌝ }
+    ensures { λ _. ⌜ now (room .exit) ≡ roomAfter restarted (Is satellite) (now (frame .entry)) (now (room .entry)) ⌝ }
+{
+    let front = front::of(satellite, frame);
+    let number = front.refusal;
+    if number != refusal::ACCEPTED {
+        return refused(number);
+    }
+    let layout = front.layout;
+    if frame.len() != layout.frame {
+        return refused(refusal::LENGTH);
+    }
+    if room.len() < layout.fields {
+        return refused(refusal::ROOM);
+    }
+    let at = satellite.type_byte_at();
+    if tell(layout, &frame[at..], room) {
+        return Reading {
+            refusal: refusal::ACCEPTED,
+            ty: front.ty,
+            count: layout.fields,
+        };
+    }
+    refused(refusal::CHECKSUM)
+}
+
+// Test 9 on what was sent from type byte to checksum; the room takes the values of a body whose checksum is right.
+fn tell(layout: Layout, sent: &[u8], room: &mut [u32]) -> bool
+    requires { ⌜ 3 ≤ length (now sent) ⌝ }
+    requires { ⌜ length (now sent) ≤ 255 ⌝ }
+    ensures { λ r. ⌜ r ≡ eqb (checksumIn (now (sent .entry))) (checksum (clear restarted (now (sent .entry)))) ⌝ }
+    ensures { λ r. ⌜ now (room .exit) ≡ toldTo r layout (clearBody restarted (now (sent .entry))) (now (room .entry)) ⌝ }
+{
+    let mut copy = [0u8; MOST_BYTES];
+    tell_from(layout, sent, room, &mut copy)
+}
+
+// The same, with bytes to unscramble in.
+fn tell_from(layout: Layout, sent: &[u8], room: &mut [u32], copy: &mut [u8]) -> bool
+    requires { ⌜ 3 ≤ length (now sent) ⌝ }
+    requires { ⌜ length (now sent) ≤ length (now copy) ⌝ }
+    ensures { λ r. ⌜ r ≡ eqb (checksumIn (now (sent .entry))) (checksum (clear restarted (now (sent .entry)))) ⌝ }
+    ensures { λ r. ⌜ now (room .exit) ≡ toldTo r layout (clearBody restarted (now (sent .entry))) (now (room .entry)) ⌝ }
+{
+    let n = sent.len();
+    let end = n - 2;
+    if clear::unscrambled(sent, &mut copy[0..n]) {
+        bodies::read(layout, &copy[1..end], room);
+        return true;
+    }
+    false
+}
