@@ -4,11 +4,11 @@ use Prim.Native.Nat.{ℕ, zero, suc, _^_, _≤_, _<_}
 use native.Mathlib.Omega.{arith}
 use mathlib.Core.Path.{_≡_, refl, sym, _∙_, ap}
 use mathlib.Core.Logic.{_≢_}
-use mathlib.Core.Bool.{Bool, true, false, false≢true, not, _&&_, _||_, cond}
+use mathlib.Core.Bool.{Bool, true, false, not, cond}
 use mathlib.Core.List.{List, _++_}
-use lib.Dec.{eqb, ltb, leb}
+use lib.Dec.{eqb, ltb}
 use lib.ListN.{length, drop, getD}
-use borrow.Author.Tests.{eqb-true, eqb-false, eq-eqb, ne-eqb, ltb-true, ltb-false, lt-ltb, leb-true, le-leb}
+use borrow.Author.Tests.{eqb-true, eqb-false, ne-eqb, ltb-true, ltb-false}
 use Rattle.scrambler.specs.declared.Register.{Register}
 use Rattle.satellites.specs.declared.Satellite.{Satellite}
 use Rattle.satellites.specs.declared.Known.{Known}
@@ -20,41 +20,25 @@ use Rattle.bodies.proofs.Laws.{fitting-below, lowest}
 use Rattle.scrambler.specs.Scrambler.{restarted}
 use Rattle.frames.specs.declared.Reading.{Reading}
 use Rattle.frames.specs.declared.Writing.{Writing}
-use Rattle.frames.specs.Tests.{test, refusal, same, AllHold}
-use Rattle.frames.specs.Frames.{frameOf, frameLength, typeOf, entryIn, valuesOf}
+use Rattle.frames.specs.Tests.{test, refusal, AllHold}
+use Rattle.frames.specs.Frames.{frameOf, frameLength, typeOf, valuesOf}
 use Rattle.frames.specs.Reading.{frontTests, readingTests, acceptedReading, refusedReading, reading, roomAfter}
 use Rattle.frames.specs.Writing.{writingTests, acceptedWriting, refusedWriting, writing, outputAfter}
-use Rattle.frames.proofs.Tests.{first-fails, Numbered, all-hold, same-equal, equal-same}
+use Rattle.frames.proofs.Tests.{first-fails, Numbered, all-hold}
 use Rattle.frames.proofs.Readings as readings
+use Rattle.frames.proofs.Readings.{readAs}
 use Rattle.frames.proofs.Writings as writings
-
--- a test and what it says
-abbrev pub Iff : Bool → Type 0 → Type 0
-Iff b said = (b ≡ true → said) × (said → b ≡ true)
-
-pub below : (a b : ℕ) → Iff (ltb a b) (a < b)
-below a b = (ltb-true a b, lt-ltb a b)
-
-pub at-most : (a b : ℕ) → Iff (leb a b) (a ≤ b)
-at-most a b = (leb-true a b, le-leb a b)
-
-pub equal : (a b : ℕ) → Iff (eqb a b) (a ≡ b)
-equal a b = (eqb-true a b, eq-eqb a b)
-
-pub same-bytes : (xs ys : List ℕ) → Iff (same xs ys) (xs ≡ ys)
-same-bytes xs ys = (same-equal xs ys, λ e. rw e (equal-same ys))
-
-pub both : {P Q : Type 0} (a b : Bool) → Iff a P → Iff b Q → Iff (a && b) (P × Q)
-both true b p q = (λ e. (p .0 refl, q .0 e), λ h. q .1 (h .1))
-both false b p q = (λ e. absurd (false≢true e), λ h. p .1 (h .0))
-
-pub only-where : {Q : Type 0} (a b : Bool) → Iff b Q → Iff (not a || b) (a ≡ true → Q)
-only-where true b q = (λ e h. q .0 e, λ f. q .1 (f refl))
-only-where false b q = (λ e h. absurd (false≢true h), λ f. refl)
+use Rattle.frames.proofs.Writings.{wroteAs}
 
 -- ---- reading
 
-pub reading-number : (r : Register) (k : Known) (frame room : List ℕ) → reading r k frame room .refusal ≡ refusal (readingTests r k frame room)
+pub reading-numbered : (r : Register) (k : Known) (frame room : List ℕ) → Numbered (readingTests r k frame room)
+unfolding readingTests frontTests every
+reading-numbered r Unknown frame room = tt
+reading-numbered r (Is s) frame room = tt
+
+pub reading-number : (r : Register) (k : Known) (frame room : List ℕ)
+    → reading r k frame room .refusal ≡ refusal (readingTests r k frame room)
 unfolding reading
 reading-number r Unknown frame room = refl
 reading-number r (Is s) frame room = go (eqb number 0) refl
@@ -63,7 +47,7 @@ reading-number r (Is s) frame room = go (eqb number 0) refl
     number = refusal (readingTests r (Is s) frame room)
 
     go : (b : Bool) → eqb number 0 ≡ b
-        → (cond b (acceptedReading (typeOf s frame) (length (entryIn s frame .widths))) (refusedReading number)) .refusal ≡ number
+        → (cond b (acceptedReading s frame) (refusedReading number)) .refusal ≡ number
     go true e = sym (eqb-true number 0 e)
     go false e = refl
 
@@ -77,19 +61,15 @@ reading-refused r (Is s) frame room n e some =
     (sym (told .0), sym (told .1))
 
 module _ (r : Register) (s : Satellite) (frame room : List ℕ) where
-  readings-numbered : Numbered (readingTests r (Is s) frame room)
-  unfolding readingTests frontTests every
-  readings-numbered = tt
-
   -- an accepted answer
-  module _ (t n : ℕ) (accepted : reading r (Is s) frame room ≡ acceptedReading t n) where
-    pub none-failed : refusal (readingTests r (Is s) frame room) ≡ 0
+  module _ (t n : ℕ) (accepted : reading r (Is s) frame room ≡ readAs t n) where
+    none-failed : refusal (readingTests r (Is s) frame room) ≡ 0
     none-failed = sym (reading-number r (Is s) frame room) ∙ ap (λ (a : Reading). a .refusal) accepted
 
     pub all-held : AllHold (readingTests r (Is s) frame room)
-    all-held = all-hold (readingTests r (Is s) frame room) readings-numbered none-failed
+    all-held = all-hold (readingTests r (Is s) frame room) (reading-numbered r (Is s) frame room) none-failed
 
-    its-answer : acceptedReading (typeOf s frame) (length (entryIn s frame .widths)) ≡ acceptedReading t n
+    its-answer : acceptedReading s frame ≡ readAs t n
     its-answer = readings.accepted-with r s frame room none-failed .0 ∙ accepted
 
     pub its-type : typeOf s frame ≡ t
@@ -105,7 +85,13 @@ module _ (r : Register) (s : Satellite) (frame room : List ℕ) where
 
 -- ---- writing
 
-pub writing-number : (k : Known) (t : ℕ) (values output : List ℕ) → writing k t values output .refusal ≡ refusal (writingTests k t values output)
+pub writing-numbered : (k : Known) (t : ℕ) (values output : List ℕ) → Numbered (writingTests k t values output)
+unfolding writingTests every
+writing-numbered Unknown t values output = tt
+writing-numbered (Is s) t values output = tt
+
+pub writing-number : (k : Known) (t : ℕ) (values output : List ℕ)
+    → writing k t values output .refusal ≡ refusal (writingTests k t values output)
 unfolding writing
 writing-number Unknown t values output = refl
 writing-number (Is s) t values output = go (eqb number 0) refl
@@ -114,7 +100,7 @@ writing-number (Is s) t values output = go (eqb number 0) refl
     number = refusal (writingTests (Is s) t values output)
 
     go : (b : Bool) → eqb number 0 ≡ b
-        → (cond b (acceptedWriting (frameLength s t)) (refusedWriting number (fitting (entryOf s t .widths) values))) .refusal ≡ number
+        → (cond b (acceptedWriting s t) (refusedWriting number (fitting (entryOf s t .widths) values))) .refusal ≡ number
     go true e = sym (eqb-true number 0 e)
     go false e = refl
 
@@ -150,9 +136,11 @@ some-misfit s t values output (suc (suc (suc zero))) h e f = f
 some-misfit s t values output (suc (suc (suc (suc zero)))) h e f = absurd (omega (arith, e))
 some-misfit s t values output (suc (suc (suc (suc (suc p))))) h e f = absurd (omega (arith, h))
 
-pub writing-lowest : (s : Satellite) (t i : ℕ) (values output : List ℕ) → writing (Is s) t values output ≡ record { refusal = 11; answer = i }
-    → (2 ^ widthAt (entryOf s t .widths) i ≤ getD values i 0)
-    × ((j : ℕ) → j < i → getD values j 0 < 2 ^ widthAt (entryOf s t .widths) j)
+pub writing-lowest : (s : Satellite) (t i : ℕ) (values output : List ℕ)
+    → writing (Is s) t values output ≡ record { refusal = 11; answer = i }
+    → (i < length (entryOf s t .widths))
+    × ((2 ^ widthAt (entryOf s t .widths) i ≤ getD values i 0)
+    × ((j : ℕ) → j < i → getD values j 0 < 2 ^ widthAt (entryOf s t .widths) j))
 writing-lowest s t i values output e =
     let ws = entryOf s t .widths in
     let number = sym (writing-number (Is s) t values output) ∙ ap (λ (a : Writing). a .refusal) e in
@@ -161,23 +149,22 @@ writing-lowest s t i values output e =
     let f = first-fails (writingTests (Is s) t values output) 11 number (λ z. omega (arith, z)) in
     let other = eqb-false (fitting ws values) (length ws) (some-misfit s t values output (f .place) (f .inside) (f .numbered) (f .fails)) in
     let below-all : i ≤ length ws = omega (arith, its, fitting-below ws values) in
-    lowest ws values i its (strictly i (length ws) below-all (λ e. other (its ∙ e)))
+    let inside = strictly i (length ws) below-all (λ e. other (its ∙ e)) in
+    (inside, lowest ws values i its inside)
 
 module _ (r : Register) (s : Satellite) (t : ℕ) (values output : List ℕ) where
-  writings-numbered : Numbered (writingTests (Is s) t values output)
-  unfolding writingTests every
-  writings-numbered = tt
-
   -- an accepted answer
-  module _ (n : ℕ) (accepted : writing (Is s) t values output ≡ acceptedWriting n) where
+  module _ (n : ℕ) (accepted : writing (Is s) t values output ≡ wroteAs n) where
     none-refused : refusal (writingTests (Is s) t values output) ≡ 0
     none-refused = sym (writing-number (Is s) t values output) ∙ ap (λ (a : Writing). a .refusal) accepted
 
     pub all-kept : AllHold (writingTests (Is s) t values output)
-    all-kept = all-hold (writingTests (Is s) t values output) writings-numbered none-refused
+    all-kept = all-hold (writingTests (Is s) t values output) (writing-numbered (Is s) t values output) none-refused
 
     pub its-frame : frameLength s t ≡ n
     its-frame = ap (λ (a : Writing). a .answer) (writings.accepted-with r s t values output none-refused .0 ∙ accepted)
 
     pub its-output : outputAfter r (Is s) t values output ≡ frameOf r s t values ++ drop n output
-    its-output = sym (writings.accepted-with r s t values output none-refused .1) ∙ ap (λ (m : ℕ). frameOf r s t values ++ drop m output) its-frame
+    its-output =
+        sym (writings.accepted-with r s t values output none-refused .1)
+        ∙ ap (λ (m : ℕ). frameOf r s t values ++ drop m output) its-frame

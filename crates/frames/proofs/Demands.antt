@@ -5,39 +5,58 @@
 --
 -- "Every call .. keeps nothing from the call before": what is answered and left are functions of the call's arguments, and
 -- `Determined` shows that the contracts allow nothing else. "Answers for all input": the contracts ask for nothing.
+--
+-- The words: `trainingOf`, `sizeByteOf`, `addressOf` are a satellite's constants, and its type byte stands at `typeByteAt`.
+-- `carries s t` says that 01's table has type t for satellite s; its line is `entryOf s t`, with the fields' `widths` and the
+-- `size`, "from type byte to checksum". Field i starts at bit `startAt widths i` of the body and is `widthAt widths i` bits
+-- wide; `field` is the unsigned number there. `partAnswer Unscramble r` is the inverse of scrambling from r on. `FirstFails`,
+-- `AllHold` and `Mean`, for lists of tests, are in specs/Tests.antt.
 -- Assumes nothing.
 use Prim.Native.Nat.{ℕ, _+_, _-_, _*_, _/_, _%_, _^_, _≤_, _<_}
 use native.Mathlib.Omega.{arith}
 use mathlib.Core.Path.{_≡_, refl, sym, _∙_, ap, subst}
 use mathlib.Core.Logic.{_≢_}
-use mathlib.Core.Bool.{true, false, false≢true}
+use mathlib.Core.Bool.{Bool, true}
 use mathlib.Core.List.{List, [], _∷_, _++_}
 use Prim.{⊥}
 use lib.Dec.{eqb}
 use lib.ListN.{length, getD, take, drop, replicate}
-use Rattle.bits.specs.Bits.{number, field, Bytes}
+use Rattle.bits.specs.Bits.{number, bitsOf, field, Bytes}
 use Rattle.checksum.specs.Checksum.{checksum}
 use Rattle.scrambler.specs.declared.Register.{Register}
+use Rattle.scrambler.specs.declared.Direction.the-variants.{Unscramble}
+use Rattle.scrambler.specs.Scrambler.{partAnswer}
 use Rattle.satellites.specs.declared.Satellite.{Satellite}
 use Rattle.satellites.specs.declared.Known.{Known}
 use Rattle.satellites.specs.declared.Known.the-variants.{Is, Unknown}
 use Rattle.satellites.specs.Satellites.{known, numberOf, addressOf, trainingOf, sizeByteOf, typeByteAt}
 use Rattle.satellites.proofs.Laws.{known-below, unknown, number-known, address-most}
 use Rattle.layouts.specs.Layouts.{carries, entryOf, widthAt, startAt}
-use Rattle.bodies.specs.Bodies.{told, fitting}
-use Rattle.bodies.proofs.Laws.{fits-exactly, all-fitting, lowest}
-use Rattle.frames.specs.Tests.{Test, FirstFails, same}
-use Rattle.frames.specs.Frames.{training, sync, frameOf, frameLength, fromTypeByte, checksumIn, clearBody, clear, typeOf, entryIn}
+use Rattle.frames.specs.Tests.{FirstFails, AllHold, Iff, says, Mean}
+use Rattle.frames.specs.Frames.{training, sync, frameOf, frameLength, clearBody, clear, typeOf, entryIn}
 use Rattle.frames.specs.Reading.{frontTests, readingTests, reading, roomAfter}
 use Rattle.frames.specs.Writing.{writingTests, writing, outputAfter}
-use Rattle.frames.proofs.Tests.{first-fails, fails-first}
+use Rattle.frames.proofs.Tests.{first-fails, fails-first, all-hold, hold-all}
 use Rattle.frames.proofs.Fronts as fronts
 use Rattle.frames.proofs.Readings as readings
-use Rattle.frames.proofs.Writings as writings
 use Rattle.frames.proofs.Wholes.{its-length, its-training, its-sync, its-type-byte, its-size-byte, its-checksum}
 use Rattle.frames.proofs.Answers as answers
 use Rattle.frames.proofs.Exact as exact
-use Rattle.frames.proofs.Answers.{Iff, below, at-most, equal, same-bytes, both, only-where}
+use Rattle.frames.proofs.Says.{below, at-most, equal, same-bytes, both, only-where, itself, always, never, all-fit}
+
+-- ---- the parts of a frame
+
+-- from type byte to checksum
+abbrev pub part : Satellite → List ℕ → List ℕ
+part s frame = drop (typeByteAt s) frame
+
+-- the last two bytes, the highest bit first
+abbrev pub lastTwo : Satellite → List ℕ → ℕ
+lastTwo s frame = number (bitsOf (drop (length (part s frame) - 2) (part s frame)))
+
+-- what stands between the type byte and these, unscrambled
+abbrev pub unscrambled : Register → Satellite → List ℕ → List ℕ
+unscrambled r s frame = partAnswer Unscramble r (drop 1 (take (length (part s frame) - 2) (part s frame)))
 
 -- ---- 1. "takes the satellite by name"
 
@@ -50,15 +69,9 @@ not-named = unknown
 
 -- ---- "What it cannot accept it refuses with the number in the scope document"
 
--- what each test of a call says: its number, and the statement that it is true of
-pub data Said : Type 1 where
-  says : ℕ → Type 0 → Said
-
-abbrev pub Mean : List Test → List Said → Type 0
-Mean [] [] = Unit {0}
-Mean [] (more ∷ said) = ⊥
-Mean (t ∷ ts) [] = ⊥
-Mean (t ∷ ts) (says k statement ∷ said) = ((t .number ≡ k) × Iff (t .holds) statement) × Mean ts said
+-- what the tests of a call say, one after the other: `says` a number and the statement that the test is true of
+its : (k : ℕ) {b : Bool} {statement rest : Type 0} → Iff b statement → rest → ((k ≡ k) × Iff b statement) × rest
+its k iff more = ((refl, iff), more)
 
 -- reading tests 1 to 9 in that order, and these are the tests
 pub reading-tests : (r : Register) (s : Satellite) (frame room : List ℕ)
@@ -66,45 +79,28 @@ pub reading-tests : (r : Register) (s : Satellite) (frame room : List ℕ)
     (says 1 (Unit {0})
     ∷ says 2 (typeByteAt s < length frame)
     ∷ says 3 ((take (trainingOf s) frame ≡ replicate (trainingOf s) 0xAA) × (take 2 (drop (trainingOf s) frame) ≡ 0xBF ∷ 0x35 ∷ []))
-    ∷ says 4 (getD (drop (typeByteAt s) frame) 0 0 % 16 ≡ addressOf s)
-    ∷ says 5 (carries s (typeOf s frame) ≡ true)
-    ∷ says 6 (sizeByteOf s ≡ true → getD frame (typeByteAt s - 1) 0 ≡ entryIn s frame .size)
-    ∷ says 7 (length frame ≡ typeByteAt s + entryIn s frame .size)
-    ∷ says 8 (length (entryIn s frame .widths) ≤ length room)
-    ∷ says 9 (checksumIn (fromTypeByte s frame) ≡ checksum (clear r (fromTypeByte s frame)))
+    ∷ says 4 (getD (part s frame) 0 0 % 16 ≡ addressOf s)
+    ∷ says 5 (carries s (getD (part s frame) 0 0 / 16) ≡ true)
+    ∷ says 6 (sizeByteOf s ≡ true → getD frame (typeByteAt s - 1) 0 ≡ entryOf s (getD (part s frame) 0 0 / 16) .size)
+    ∷ says 7 (length frame ≡ typeByteAt s + entryOf s (getD (part s frame) 0 0 / 16) .size)
+    ∷ says 8 (length (entryOf s (getD (part s frame) 0 0 / 16) .widths) ≤ length room)
+    ∷ says 9 (lastTwo s frame ≡ checksum (getD (part s frame) 0 0 ∷ unscrambled r s frame))
     ∷ [])
-unfolding readingTests frontTests
+unfolding readingTests frontTests clearBody
 reading-tests r s frame room =
-    let part = fromTypeByte s frame in
-    let size = entryIn s frame .size in (
-      (refl, (λ e. tt, λ u. refl)),
-      (
-        (refl, below (typeByteAt s) (length frame)),
-        (
-          (
-            refl,
-            both (same (take (trainingOf s) frame) (training s)) (same (take 2 (drop (trainingOf s) frame)) sync)
-                (same-bytes (take (trainingOf s) frame) (training s)) (same-bytes (take 2 (drop (trainingOf s) frame)) sync),
-          ),
-          (
-            (refl, equal (getD part 0 0 % 16) (addressOf s)),
-            (
-              (refl, (λ e. e, λ e. e)),
-              (
-                (refl, only-where (sizeByteOf s) (eqb (getD frame (typeByteAt s - 1) 0) size) (equal (getD frame (typeByteAt s - 1) 0) size)),
-                (
-                  (refl, equal (length frame) (typeByteAt s + size)),
-                  (
-                    (refl, at-most (length (entryIn s frame .widths)) (length room)),
-                    ((refl, equal (checksumIn part) (checksum (clear r part))), tt),
-                  ),
-                ),
-              ),
-            ),
-          ),
-        ),
-      ),
-    )
+    let size-sent = getD frame (typeByteAt s - 1) 0 in
+    let size = entryIn s frame .size in
+    let trained = same-bytes (take (trainingOf s) frame) (training s) in
+    let synced = same-bytes (take 2 (drop (trainingOf s) frame)) sync in
+    let nine = its 9 (equal (lastTwo s frame) (checksum (getD (part s frame) 0 0 ∷ unscrambled r s frame))) (tt {0}) in
+    let eight = its 8 (at-most (length (entryIn s frame .widths)) (length room)) nine in
+    let seven = its 7 (equal (length frame) (typeByteAt s + size)) eight in
+    let six = its 6 (only-where (sizeByteOf s) (eqb size-sent size) (equal size-sent size)) seven in
+    let five = its 5 (itself (carries s (typeOf s frame))) six in
+    let four = its 4 (equal (getD (part s frame) 0 0 % 16) (addressOf s)) five in
+    let three = its 3 (both trained synced) four in
+    let two = its 2 (below (typeByteAt s) (length frame)) three in
+    its 1 always two
 
 -- writing tests 1, 5, 10, 11, 12
 pub writing-tests : (s : Satellite) (t : ℕ) (values output : List ℕ)
@@ -117,31 +113,18 @@ pub writing-tests : (s : Satellite) (t : ℕ) (values output : List ℕ)
     ∷ [])
 unfolding writingTests
 writing-tests s t values output =
-    let ws = entryOf s t .widths in (
-      (refl, (λ e. tt, λ u. refl)),
-      (
-        (refl, (λ e. e, λ e. e)),
-        (
-          (refl, equal (length values) (length ws)),
-          (
-            (
-              refl,
-              (
-                λ e. fits-exactly ws values (equal (fitting ws values) (length ws) .0 e),
-                λ h. equal (fitting ws values) (length ws) .1 (all-fitting ws values h),
-              ),
-            ),
-            ((refl, at-most (typeByteAt s + entryOf s t .size) (length output)), tt),
-          ),
-        ),
-      ),
-    )
+    let ws = entryOf s t .widths in
+    let twelve = its 12 (at-most (typeByteAt s + entryOf s t .size) (length output)) (tt {0}) in
+    let eleven = its 11 (all-fit ws values) twelve in
+    let ten = its 10 (equal (length values) (length ws)) eleven in
+    let five = its 5 (itself (carries s t)) ten in
+    its 1 always five
 
 -- of a satellite that is not named, both test that alone
 pub unnamed-tests : (r : Register) (t : ℕ) (xs ys : List ℕ)
     → Mean (readingTests r Unknown xs ys) (says 1 ⊥ ∷ []) × Mean (writingTests Unknown t xs ys) (says 1 ⊥ ∷ [])
 unfolding readingTests writingTests
-unnamed-tests r t xs ys = (((refl, (λ e. false≢true e, λ u. absurd u)), tt), ((refl, (λ e. false≢true e, λ u. absurd u)), tt))
+unnamed-tests r t xs ys = (its 1 never (tt {0}), its 1 never (tt {0}))
 
 -- a number other than 0 is answered exactly when the test of that number fails and those ahead of it hold
 pub reading-refuses : (r : Register) (k : Known) (frame room : List ℕ) (n : ℕ) → n ≢ 0
@@ -149,14 +132,35 @@ pub reading-refuses : (r : Register) (k : Known) (frame room : List ℕ) (n : �
     × (FirstFails n (readingTests r k frame room) → reading r k frame room .refusal ≡ n)
 reading-refuses r k frame room n some =
     let number = answers.reading-number r k frame room in
-    (λ e. first-fails (readingTests r k frame room) n (sym number ∙ e) some, λ f. number ∙ fails-first (readingTests r k frame room) n f)
+    let tests = readingTests r k frame room in
+    (λ e. first-fails tests n (sym number ∙ e) some, λ f. number ∙ fails-first tests n f)
 
 pub writing-refuses : (k : Known) (t : ℕ) (values output : List ℕ) (n : ℕ) → n ≢ 0
     → (writing k t values output .refusal ≡ n → FirstFails n (writingTests k t values output))
     × (FirstFails n (writingTests k t values output) → writing k t values output .refusal ≡ n)
 writing-refuses k t values output n some =
     let number = answers.writing-number k t values output in
-    (λ e. first-fails (writingTests k t values output) n (sym number ∙ e) some, λ f. number ∙ fails-first (writingTests k t values output) n f)
+    let tests = writingTests k t values output in
+    (λ e. first-fails tests n (sym number ∙ e) some, λ f. number ∙ fails-first tests n f)
+
+-- and 0 exactly when all of them hold
+pub reading-accepts : (r : Register) (k : Known) (frame room : List ℕ)
+    → (reading r k frame room .refusal ≡ 0 → AllHold (readingTests r k frame room))
+    × (AllHold (readingTests r k frame room) → reading r k frame room .refusal ≡ 0)
+reading-accepts r k frame room =
+    let number = answers.reading-number r k frame room in (
+      λ e. all-hold (readingTests r k frame room) (answers.reading-numbered r k frame room) (sym number ∙ e),
+      λ h. number ∙ hold-all (readingTests r k frame room) h,
+    )
+
+pub writing-accepts : (k : Known) (t : ℕ) (values output : List ℕ)
+    → (writing k t values output .refusal ≡ 0 → AllHold (writingTests k t values output))
+    × (AllHold (writingTests k t values output) → writing k t values output .refusal ≡ 0)
+writing-accepts k t values output =
+    let number = answers.writing-number k t values output in (
+      λ e. all-hold (writingTests k t values output) (answers.writing-numbered k t values output) (sym number ∙ e),
+      λ h. number ∙ hold-all (writingTests k t values output) h,
+    )
 
 -- ---- "and a refused call leaves every buffer handed to it untouched"
 
@@ -171,13 +175,15 @@ pub writing-refused : (r : Register) (k : Known) (t : ℕ) (values output : List
 writing-refused = answers.writing-refused
 
 -- "11, which answers the lowest field number that does not fit"
-pub writing-lowest : (s : Satellite) (t i : ℕ) (values output : List ℕ) → writing (Is s) t values output ≡ record { refusal = 11; answer = i }
-    → (2 ^ widthAt (entryOf s t .widths) i ≤ getD values i 0)
-    × ((j : ℕ) → j < i → getD values j 0 < 2 ^ widthAt (entryOf s t .widths) j)
+pub writing-lowest : (s : Satellite) (t i : ℕ) (values output : List ℕ)
+    → writing (Is s) t values output ≡ record { refusal = 11; answer = i }
+    → (i < length (entryOf s t .widths))
+    × ((2 ^ widthAt (entryOf s t .widths) i ≤ getD values i 0)
+    × ((j : ℕ) → j < i → getD values j 0 < 2 ^ widthAt (entryOf s t .widths) j))
 writing-lowest = answers.writing-lowest
 
 -- ---- 2. "a frame is accepted exactly when preamble, address, type, size byte where there is one, length and checksum are
--- those of the published tables": of type t,
+-- those of the published tables": those of type t are
 
 pub record Published (r : Register) (s : Satellite) (t : ℕ) (frame : List ℕ) : Type 0 where
   pub training-right : take (trainingOf s) frame ≡ replicate (trainingOf s) 0xAA
@@ -187,8 +193,14 @@ pub record Published (r : Register) (s : Satellite) (t : ℕ) (frame : List ℕ)
   pub carried : carries s t ≡ true
   pub size-right : sizeByteOf s ≡ true → getD frame (typeByteAt s - 1) 0 ≡ entryOf s t .size
   pub length-right : length frame ≡ typeByteAt s + entryOf s t .size
-  -- the last two bytes, against type and address and the unscrambled body
-  pub checksum-right : checksumIn (fromTypeByte s frame) ≡ checksum (clear r (fromTypeByte s frame))
+  -- the checksum covers type and address, one byte, and the unscrambled body
+  pub checksum-right : lastTwo s frame ≡ checksum (getD frame (typeByteAt s) 0 ∷ unscrambled r s frame)
+
+-- the type byte, found in the frame and in its part
+summed : (r : Register) (s : Satellite) (frame : List ℕ)
+    → checksum (clear r (part s frame)) ≡ checksum (getD frame (typeByteAt s) 0 ∷ unscrambled r s frame)
+unfolding clearBody
+summed r s frame = ap (λ (x : ℕ). checksum (x ∷ unscrambled r s frame)) (fronts.first-at (typeByteAt s) frame)
 
 -- the frame of any values is right
 frame-published : (r : Register) (s : Satellite) (t : ℕ) (values : List ℕ) → carries s t ≡ true → Published r s t (frameOf r s t values)
@@ -204,7 +216,7 @@ frame-published r s t values carried =
       carried = carried;
       size-right = its-size-byte r s t carried values;
       length-right = its-length r s t carried values;
-      checksum-right = its-checksum r s t carried values;
+      checksum-right = its-checksum r s t carried values ∙ summed r s (frameOf r s t values);
     }
 
 module _ (r : Register) (s : Satellite) (frame room : List ℕ) where
@@ -212,20 +224,13 @@ module _ (r : Register) (s : Satellite) (frame room : List ℕ) where
   pub published-accepted : (t : ℕ) → Published r s t frame → length (entryOf s t .widths) ≤ length room
       → reading r (Is s) frame room ≡ record { refusal = 0; ty = t; count = length (entryOf s t .widths) }
   published-accepted t p =
-      exact.right-accepted r s frame room t (p .carried) (p .training-right) (p .sync-right) (p .address-right) (p .type-right) (p .size-right)
-      (p .length-right) (p .checksum-right)
-
-  -- an answer with number 0 gives a type and a count,
-  pub accepted-answer : reading r (Is s) frame room .refusal ≡ 0
-      → (t : ℕ) × ((n : ℕ) × (reading r (Is s) frame room ≡ record { refusal = 0; ty = t; count = n }))
-  accepted-answer e =
-      let told = readings.accepted-with r s frame room (sym (answers.reading-number r (Is s) frame room) ∙ e) .0 in
-      (typeOf s frame, (length (entryIn s frame .widths), sym told))
+      exact.right-accepted r s frame room t (p .carried) (p .training-right) (p .sync-right) (p .address-right) (p .type-right)
+      (p .size-right) (p .length-right) (p .checksum-right ∙ sym (summed r s frame))
 
   module _ (t n : ℕ) (answer : reading r (Is s) frame room ≡ record { refusal = 0; ty = t; count = n }) where
     -- and whatever is accepted is right
     pub accepted-published : Published r s t frame
-    unfolding readingTests frontTests
+    unfolding readingTests frontTests clearBody
     accepted-published =
         let typed = answers.its-type r s frame room t n answer in
         let first = fronts.first-at (typeByteAt s) frame in
@@ -241,32 +246,33 @@ module _ (r : Register) (s : Satellite) (frame room : List ℕ) where
           carried = ap (carries s) (sym typed) ∙ holds 4 (omega arith);
           size-right = λ has. size has ∙ ap (λ (u : ℕ). entryOf s u .size) typed;
           length-right = tests .1 .1 .1 .1 .1 .1 .0 .1 .0 (holds 6 (omega arith)) ∙ ap (frameLength s) typed;
-          checksum-right = tests .1 .1 .1 .1 .1 .1 .1 .1 .0 .1 .0 (holds 8 (omega arith));
+          checksum-right = tests .1 .1 .1 .1 .1 .1 .1 .1 .0 .1 .0 (holds 8 (omega arith)) ∙ summed r s frame;
         }
 
     -- "Its values are the table's fields", as many as the table has; "later places stay"
     pub accepted-values : (n ≡ length (entryOf s t .widths))
         × (((i : ℕ) → i < n
         → getD (roomAfter r (Is s) frame room) i 0
-        ≡ field (startAt (entryOf s t .widths) i) (widthAt (entryOf s t .widths) i) (clearBody r (fromTypeByte s frame)))
+        ≡ field (startAt (entryOf s t .widths) i) (widthAt (entryOf s t .widths) i) (unscrambled r s frame))
         × ((length (roomAfter r (Is s) frame room) ≡ length room) × (drop n (roomAfter r (Is s) frame room) ≡ drop n room)))
-    accepted-values = (
-      sym (answers.its-count r s frame room t n answer),
-      (
-        exact.value-at r s frame room t n answer,
-        (exact.room-length r s frame room t n answer, exact.room-behind r s frame room t n answer),
-      ),
-    )
+    unfolding clearBody
+    accepted-values = (sym (answers.its-count r s frame room t n answer), exact.room-told r s frame room t n answer)
 
-    -- "Writing an accepted frame's values gives that frame again"
+    -- "Writing an accepted frame's values gives that frame again"; a lent frame holds bytes and nothing else
     pub accepted-rewritten : Bytes frame → (output : List ℕ) → length frame ≤ length output
         → let values = take n (roomAfter r (Is s) frame room) in
         (writing (Is s) t values output ≡ record { refusal = 0; answer = length frame })
         × (outputAfter r (Is s) t values output ≡ frame ++ drop (length frame) output)
     accepted-rewritten =
         let p = accepted-published in
-        exact.rewritten r s frame room t (p .carried) (p .training-right) (p .sync-right) (p .address-right) (p .type-right) (p .size-right)
-        (p .length-right) (p .checksum-right) n answer
+        exact.rewritten r s frame room t (p .carried) (p .training-right) (p .sync-right) (p .address-right) (p .type-right)
+        (p .size-right) (p .length-right) (p .checksum-right ∙ sym (summed r s frame)) n answer
+
+  -- so a number of 0 says that the frame is right, of the type that is answered
+  pub accepted-right : reading r (Is s) frame room .refusal ≡ 0 → Published r s (reading r (Is s) frame room .ty) frame
+  accepted-right e =
+      let a = reading r (Is s) frame room in
+      accepted-published (a .ty) (a .count) (λ i. record { refusal = e i; ty = a .ty; count = a .count })
 
 module _ (r : Register) (s : Satellite) (t n : ℕ) (values output : List ℕ)
     (answer : writing (Is s) t values output ≡ record { refusal = 0; answer = n }) where

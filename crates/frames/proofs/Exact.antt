@@ -18,17 +18,20 @@ use Rattle.satellites.specs.Satellites.{addressOf, trainingOf, sizeByteOf, type
 use Rattle.layouts.specs.Layouts.{carries, entryOf, widthAt, startAt}
 use Rattle.bodies.specs.Bodies.{told, fitting}
 use Rattle.bodies.proofs.Laws.{length-told, told-at, fitting-told}
-use Rattle.frames.specs.Tests.{refusal, same}
-use Rattle.frames.specs.Frames.{training, sync, typeByte, frameOf, frameLength, fromTypeByte, checksumIn, clearBody, clear, typeOf, entryIn, valuesOf}
-use Rattle.frames.specs.Reading.{frontTests, readingTests, acceptedReading, reading, roomAfter}
-use Rattle.frames.specs.Writing.{writingTests, acceptedWriting, writing, outputAfter}
+use Rattle.frames.specs.Tests.{refusal}
+use Rattle.frames.specs.Frames.{sizeIn, training, sync, typeByte, frameOf, frameLength}
+use Rattle.frames.specs.Frames.{fromTypeByte, checksumIn, clearBody, clear, typeOf, entryIn, valuesOf}
+use Rattle.frames.specs.Reading.{frontTests, readingTests, reading, roomAfter}
+use Rattle.frames.specs.Writing.{writingTests, writing, outputAfter}
 use Rattle.frames.proofs.Fronts as fronts
 use Rattle.frames.proofs.Readings as readings
+use Rattle.frames.proofs.Readings.{readAs}
 use Rattle.frames.proofs.Writings as writings
+use Rattle.frames.proofs.Writings.{wroteAs}
 use Rattle.frames.proofs.Assembled.{three-least}
 use Rattle.frames.proofs.Wholes.{frame-again, its-length, values-again}
 use Rattle.frames.proofs.Answers as answers
-use Rattle.frames.proofs.Answers.{below, equal, same-bytes, both, only-where}
+use Rattle.frames.proofs.Says.{below, equal, same-bytes, both, only-where}
 
 module _ (r : Register) (s : Satellite) (frame room : List ℕ) where
   abbrev part : List ℕ
@@ -36,7 +39,7 @@ module _ (r : Register) (s : Satellite) (frame room : List ℕ) where
 
   -- ---- what an accepting answer tells
 
-  module _ (t n : ℕ) (answer : reading r (Is s) frame room ≡ acceptedReading t n) where
+  module _ (t n : ℕ) (answer : reading r (Is s) frame room ≡ readAs t n) where
     typed : typeOf s frame ≡ t
     typed = answers.its-type r s frame room t n answer
 
@@ -56,8 +59,9 @@ module _ (r : Register) (s : Satellite) (frame room : List ℕ) where
           leb-true (length (entryIn s frame .widths)) (length room) (answers.all-held r s frame room t n answer 7 (omega arith)),
         )
 
-    pub value-at : (i : ℕ) → i < n
-        → getD (roomAfter r (Is s) frame room) i 0 ≡ field (startAt (entryOf s t .widths) i) (widthAt (entryOf s t .widths) i) (clearBody r part)
+    value-at : (i : ℕ) → i < n
+        → getD (roomAfter r (Is s) frame room) i 0
+        ≡ field (startAt (entryOf s t .widths) i) (widthAt (entryOf s t .widths) i) (clearBody r part)
     unfolding field valuesOf
     value-at i h =
         ap (λ (l : List ℕ). getD l i 0) (answers.its-room r s frame room t n answer)
@@ -65,13 +69,19 @@ module _ (r : Register) (s : Satellite) (frame room : List ℕ) where
         ∙ told-at (entryIn s frame .widths) (bitsOf (clearBody r part)) i (omega (arith, h, count))
         ∙ ap (λ (u : ℕ). field (startAt (entryOf s u .widths) i) (widthAt (entryOf s u .widths) i) (clearBody r part)) typed
 
-    pub room-length : length (roomAfter r (Is s) frame room) ≡ length room
+    room-length : length (roomAfter r (Is s) frame room) ≡ length room
     room-length =
         ap length (answers.its-room r s frame room t n answer)
         ∙ length-append (valuesOf r s frame) (drop n room) ∙ omega (arith, values-length, enough, length-drop n room)
 
-    pub room-behind : drop n (roomAfter r (Is s) frame room) ≡ drop n room
+    room-behind : drop n (roomAfter r (Is s) frame room) ≡ drop n room
     room-behind = ap (drop n) (answers.its-room r s frame room t n answer) ∙ drop-at (valuesOf r s frame) (drop n room) n values-length
+
+    pub room-told : ((i : ℕ) → i < n
+        → getD (roomAfter r (Is s) frame room) i 0
+        ≡ field (startAt (entryOf s t .widths) i) (widthAt (entryOf s t .widths) i) (clearBody r part))
+        × ((length (roomAfter r (Is s) frame room) ≡ length room) × (drop n (roomAfter r (Is s) frame room) ≡ drop n room))
+    room-told = (value-at, (room-length, room-behind))
 
     values-read : take n (roomAfter r (Is s) frame room) ≡ told (entryOf s t .widths) (bitsOf (clearBody r part))
     unfolding valuesOf
@@ -87,7 +97,7 @@ module _ (r : Register) (s : Satellite) (frame room : List ℕ) where
       (synced : take 2 (drop (trainingOf s) frame) ≡ sync)
       (address : getD frame (typeByteAt s) 0 % 16 ≡ addressOf s)
       (high : getD frame (typeByteAt s) 0 / 16 ≡ t)
-      (sized : sizeByteOf s ≡ true → getD frame (typeByteAt s - 1) 0 ≡ entryOf s t .size)
+      (sized : sizeByteOf s ≡ true → sizeIn s frame ≡ entryOf s t .size)
       (long : length frame ≡ frameLength s t)
       (right : checksumIn part ≡ checksum (clear r part)) where
     its-type : typeOf s frame ≡ t
@@ -97,28 +107,27 @@ module _ (r : Register) (s : Satellite) (frame room : List ℕ) where
     front =
         fronts.none-fails s frame
         (below (typeByteAt s) (length frame) .1 (omega (arith, long, three-least s t carried)))
-        (both (same (take (trainingOf s) frame) (training s)) (same (take 2 (drop (trainingOf s) frame)) sync)
-        (same-bytes (take (trainingOf s) frame) (training s)) (same-bytes (take 2 (drop (trainingOf s) frame)) sync) .1
+        (both (same-bytes (take (trainingOf s) frame) (training s)) (same-bytes (take 2 (drop (trainingOf s) frame)) sync) .1
         (trained, synced))
         (equal (getD part 0 0 % 16) (addressOf s) .1 (ap (λ (x : ℕ). x % 16) (fronts.first-at (typeByteAt s) frame) ∙ address))
         (ap (carries s) its-type ∙ carried)
-        (only-where (sizeByteOf s) (eqb (getD frame (typeByteAt s - 1) 0) (entryIn s frame .size))
-        (equal (getD frame (typeByteAt s - 1) 0) (entryIn s frame .size)) .1
+        (only-where (sizeByteOf s) (eqb (sizeIn s frame) (entryIn s frame .size))
+        (equal (sizeIn s frame) (entryIn s frame .size)) .1
         (λ has. sized has ∙ sym (ap (λ (u : ℕ). entryOf s u .size) its-type)))
 
     pub right-accepted : length (entryOf s t .widths) ≤ length room
-        → reading r (Is s) frame room ≡ acceptedReading t (length (entryOf s t .widths))
+        → reading r (Is s) frame room ≡ readAs t (length (entryOf s t .widths))
     right-accepted roomy =
         let same-count = ap (λ (u : ℕ). length (entryOf s u .widths)) its-type in
         let none = readings.none-fails r s frame room front (long ∙ ap (frameLength s) (sym its-type)) (omega (arith, same-count, roomy))
         (equal (checksumIn part) (checksum (clear r part)) .1 right) in
-        sym (readings.accepted-with r s frame room none .0) ∙ ap (λ (u : ℕ). acceptedReading u (length (entryOf s u .widths))) its-type
+        sym (readings.accepted-with r s frame room none .0) ∙ ap (λ (u : ℕ). readAs u (length (entryOf s u .widths))) its-type
 
     -- what was read of it, written
-    pub rewritten : (n : ℕ) → reading r (Is s) frame room ≡ acceptedReading t n → Bytes frame → (output : List ℕ)
+    pub rewritten : (n : ℕ) → reading r (Is s) frame room ≡ readAs t n → Bytes frame → (output : List ℕ)
         → length frame ≤ length output
         → let values = take n (roomAfter r (Is s) frame room) in
-        (writing (Is s) t values output ≡ acceptedWriting (length frame))
+        (writing (Is s) t values output ≡ wroteAs (length frame))
         × (outputAfter r (Is s) t values output ≡ frame ++ drop (length frame) output)
     rewritten n answer b output fills =
         let ws = entryOf s t .widths in
@@ -130,28 +139,31 @@ module _ (r : Register) (s : Satellite) (frame room : List ℕ) where
         let none = writings.none-fails r s t values output carried (ap length its-values ∙ length-told ws bs)
         (ap (fitting ws) its-values ∙ fitting-told ws bs) (omega (arith, fills, long)) in
         let told = writings.accepted-with r s t values output none in (
-          sym (told .0) ∙ ap acceptedWriting (sym long),
+          sym (told .0) ∙ ap wroteAs (sym long),
           sym (told .1) ∙ ap₂ (λ (l : List ℕ) (m : ℕ). l ++ drop m output) again (sym long),
         )
 
 -- ---- a frame that was written
 
-module _ (r : Register) (s : Satellite) (t n : ℕ) (values output : List ℕ) (answer : writing (Is s) t values output ≡ acceptedWriting n) where
+module _ (r : Register) (s : Satellite) (t n : ℕ) (values output : List ℕ)
+    (answer : writing (Is s) t values output ≡ wroteAs n) where
   abbrev written : List ℕ
   written = frameOf r s t values
+
+  abbrev ws : List ℕ
+  ws = entryOf s t .widths
 
   pub was-carried : carries s t ≡ true
   unfolding writingTests
   was-carried = answers.all-kept r s t values output n answer 1 (omega arith)
 
-  as-many : length values ≡ length (entryOf s t .widths)
+  as-many : length values ≡ length ws
   unfolding writingTests
-  as-many = eqb-true (length values) (length (entryOf s t .widths)) (answers.all-kept r s t values output n answer 2 (omega arith))
+  as-many = eqb-true (length values) (length ws) (answers.all-kept r s t values output n answer 2 (omega arith))
 
-  all-fit : fitting (entryOf s t .widths) values ≡ length (entryOf s t .widths)
+  all-fit : fitting ws values ≡ length ws
   unfolding writingTests
-  all-fit =
-      eqb-true (fitting (entryOf s t .widths) values) (length (entryOf s t .widths)) (answers.all-kept r s t values output n answer 3 (omega arith))
+  all-fit = eqb-true (fitting ws values) (length ws) (answers.all-kept r s t values output n answer 3 (omega arith))
 
   fills : frameLength s t ≤ length output
   unfolding writingTests
@@ -174,15 +186,15 @@ module _ (r : Register) (s : Satellite) (t n : ℕ) (values output : List ℕ) (
 
   -- read again, where reading accepts it
   pub reread : (room : List ℕ) → length values ≤ length room
-      → (length (entryOf s t .widths) ≤ length room → reading r (Is s) written room ≡ acceptedReading t (length (entryOf s t .widths)))
+      → (length ws ≤ length room → reading r (Is s) written room ≡ readAs t (length ws))
       → let frame = take n (outputAfter r (Is s) t values output) in
-      (reading r (Is s) frame room ≡ acceptedReading t (length values)) × (roomAfter r (Is s) frame room ≡ values ++ drop (length values) room)
+      (reading r (Is s) frame room ≡ readAs t (length values))
+      × (roomAfter r (Is s) frame room ≡ values ++ drop (length values) room)
   unfolding valuesOf
   reread room roomy accepts =
-      let ws = entryOf s t .widths in
       let read = accepts (omega (arith, as-many, roomy)) in
       let its = answers.its-type r s written room t (length ws) read in (
-        ap (λ (f : List ℕ). reading r (Is s) f room) output-front ∙ read ∙ ap (acceptedReading t) (sym as-many),
+        ap (λ (f : List ℕ). reading r (Is s) f room) output-front ∙ read ∙ ap (readAs t) (sym as-many),
         ap (λ (f : List ℕ). roomAfter r (Is s) f room) output-front
             ∙ answers.its-room r s written room t (length ws) read
             ∙ ap₂ (λ (l : List ℕ) (m : ℕ). l ++ drop m room)

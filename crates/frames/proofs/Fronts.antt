@@ -3,19 +3,19 @@
 use Prim.Native.Nat.{ℕ, _-_}
 use Prim.{⊥}
 use mathlib.Core.Path.{_≡_, _∙_, ap, ap₂}
-use mathlib.Core.Bool.{Bool, true, false, not, _&&_, _||_}
+use mathlib.Core.Bool.{Bool, true, false, not, _||_}
 use mathlib.Core.List.{List, []}
 use borrow.Author.Tests.{eq-eqb, ne-eqb}
 use lib.Dec.{eqb, ltb}
 use native.Mathlib.Nat.{add-zero}
 use lib.Seq.{getD-drop}
-use lib.ListN.{length, getD, take, drop}
+use lib.ListN.{length, getD, drop}
 use Rattle.satellites.specs.declared.Satellite.{Satellite}
-use Rattle.satellites.specs.Satellites.{addressOf, trainingOf, sizeByteOf, typeByteAt}
+use Rattle.satellites.specs.Satellites.{addressOf, sizeByteOf, typeByteAt}
 use Rattle.layouts.specs.Layouts.{carries}
-use Rattle.frames.specs.Tests.{refusal, same}
-use Rattle.frames.specs.Frames.{training, sync, fromTypeByte, addressIn, typeOf, entryIn}
-use Rattle.frames.specs.Reading.{frontTests}
+use Rattle.frames.specs.Tests.{refusal}
+use Rattle.frames.specs.Frames.{sizeIn, fromTypeByte, addressIn, typeOf, entryIn}
+use Rattle.frames.specs.Reading.{preambled, frontTests}
 use Rattle.frames.proofs.Tests.{stops, goes, none-left}
 
 -- the byte at a place, and the first of those from there on
@@ -28,7 +28,7 @@ module _ (s : Satellite) (frame : List ℕ) where
   long = ltb (typeByteAt s) (length frame)
 
   abbrev pub preamble : Bool
-  preamble = same (take (trainingOf s) frame) (training s) && same (take 2 (drop (trainingOf s) frame)) sync
+  preamble = preambled s frame
 
   abbrev pub addressed : Bool
   addressed = eqb (addressIn (fromTypeByte s frame)) (addressOf s)
@@ -37,18 +37,18 @@ module _ (s : Satellite) (frame : List ℕ) where
   carried = carries s (typeOf s frame)
 
   abbrev pub sized : Bool
-  sized = not (sizeByteOf s) || eqb (getD frame (typeByteAt s - 1) 0) (entryIn s frame .size)
+  sized = not (sizeByteOf s) || eqb (sizeIn s frame) (entryIn s frame .size)
 
-  pub size-differs : sizeByteOf s ≡ true → (getD frame (typeByteAt s - 1) 0 ≡ entryIn s frame .size → ⊥) → sized ≡ false
+  pub size-differs : sizeByteOf s ≡ true → (sizeIn s frame ≡ entryIn s frame .size → ⊥) → sized ≡ false
   size-differs has other =
-      ap₂ (λ (b d : Bool). not b || d) has (ne-eqb (getD frame (typeByteAt s - 1) 0) (entryIn s frame .size) other)
+      ap₂ (λ (b d : Bool). not b || d) has (ne-eqb (sizeIn s frame) (entryIn s frame .size) other)
 
-  pub size-agrees : sizeByteOf s ≡ true → getD frame (typeByteAt s - 1) 0 ≡ entryIn s frame .size → sized ≡ true
+  pub size-agrees : sizeByteOf s ≡ true → sizeIn s frame ≡ entryIn s frame .size → sized ≡ true
   size-agrees has same-size =
-      ap₂ (λ (b d : Bool). not b || d) has (eq-eqb (getD frame (typeByteAt s - 1) 0) (entryIn s frame .size) same-size)
+      ap₂ (λ (b d : Bool). not b || d) has (eq-eqb (sizeIn s frame) (entryIn s frame .size) same-size)
 
   pub no-size-byte : sizeByteOf s ≡ false → sized ≡ true
-  no-size-byte none = ap (λ (b : Bool). not b || eqb (getD frame (typeByteAt s - 1) 0) (entryIn s frame .size)) none
+  no-size-byte none = ap (λ (b : Bool). not b || eqb (sizeIn s frame) (entryIn s frame .size)) none
 
   -- each that fails first
   pub fails-2 : long ≡ false → refusal (frontTests s frame) ≡ 2

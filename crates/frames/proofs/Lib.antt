@@ -8,6 +8,7 @@ mod Writings
 mod Seals
 mod Wholes
 mod Answers
+mod Says
 mod Exact
 pub mod Demands
 pub mod Determined

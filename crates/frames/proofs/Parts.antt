@@ -19,7 +19,7 @@ use Rattle.scrambler.proofs.Parts.{length-answer}
 use Rattle.frames.specs.Frames.{sealed, covered, bodyIn, checksumIn, clearBody, clear}
 
 -- what is ahead of the checksum, and the body, as they are lent; and the part with a body put back
-abbrev pub front : List ℕ → List ℕ
+abbrev front : List ℕ → List ℕ
 front part = take (length part - 2 - 0) part
 
 abbrev pub lent : List ℕ → List ℕ
@@ -36,13 +36,13 @@ module _ (x : ℕ) (xs : List ℕ) (m : ℕ) (long : length xs ≡ m + 2) where
   end-is : length part - 2 ≡ suc m
   end-is = omega (arith, long)
 
-  pub front-is : front part ≡ x ∷ take m xs
+  front-is : front part ≡ x ∷ take m xs
   front-is = let e : length part - 2 - 0 ≡ suc m = omega (arith, long) in ap (λ (k : ℕ). take k part) e
 
   lent-is : lent part ≡ take m xs
   lent-is = let e : length part - 2 - 1 ≡ m = omega (arith, long) in ap (λ (j : ℕ). take j xs) e
 
-  pub put-is : (ys : List ℕ) → put part ys ≡ x ∷ (ys ++ drop m xs)
+  put-is : (ys : List ℕ) → put part ys ≡ x ∷ (ys ++ drop m xs)
   put-is ys = let e : length part - 2 - 1 ≡ m = omega (arith, long) in ap (λ (j : ℕ). x ∷ (ys ++ drop j xs)) e
 
   covered-is : covered part ≡ x ∷ take m xs
@@ -50,6 +50,12 @@ module _ (x : ℕ) (xs : List ℕ) (m : ℕ) (long : length xs ≡ m + 2) where
 
   pub body-is : bodyIn part ≡ take m xs
   body-is = ap (drop 1) covered-is
+
+  lent-body-is : lent part ≡ bodyIn part
+  lent-body-is = lent-is ∙ sym body-is
+
+  front-body-is : front part ≡ x ∷ bodyIn part
+  front-body-is = front-is ∙ ap (λ (l : List ℕ). x ∷ l) (sym body-is)
 
   pub sum-is : drop (length part - 2) part ≡ drop m xs
   sum-is = ap (λ (k : ℕ). drop k part) end-is
@@ -73,7 +79,7 @@ lent-body [] h = absurd (omega arith)
 lent-body (x ∷ xs) h =
     let m = length xs - 2 in
     let long : length xs ≡ m + 2 = omega arith in
-    lent-is x xs m long ∙ sym (body-is x xs m long)
+    lent-body-is x xs m long
 
 -- ---- the checksum's two bytes
 
@@ -119,7 +125,7 @@ copied from to same =
 -- ---- a part in the clear
 
 module _ (r : Register) where
-  pub unscrambled-is : (part ys : List ℕ) → 3 ≤ length part → ys ≡ partAnswer Unscramble r (lent part)
+  unscrambled-is : (part ys : List ℕ) → 3 ≤ length part → ys ≡ partAnswer Unscramble r (lent part)
       → put part ys ≡ clear r part ++ drop (length part - 2) part
   unfolding clearBody
   unscrambled-is [] ys h e = absurd (omega arith)
@@ -128,17 +134,18 @@ module _ (r : Register) where
       let long : length xs ≡ m + 2 = omega arith in
       put-is x xs m long ys
       ∙ ap (λ (l : List ℕ). x ∷ l)
-      (ap₂ _++_ (e ∙ ap (partAnswer Unscramble r) (lent-is x xs m long ∙ sym (body-is x xs m long))) (sym (sum-is x xs m long)))
+      (ap₂ _++_ (e ∙ ap (partAnswer Unscramble r) (lent-body-is x xs m long)) (sym (sum-is x xs m long)))
 
   -- the same in a copy
   pub copy-unscrambled : (sent copy ys : List ℕ) (q : Register) → 3 ≤ length sent → copy ≡ sent → q ≡ r
       → ys ≡ partAnswer Unscramble q (take (length sent - 2 - 1) (drop 1 copy))
       → take 1 copy ++ (ys ++ drop (length sent - 2 - 1) (drop 1 copy)) ≡ clear r sent ++ drop (length sent - 2) sent
   copy-unscrambled sent copy ys q h whole its e =
-      ap (λ (l : List ℕ). take 1 l ++ (ys ++ drop (length sent - 2 - 1) (drop 1 l))) whole
-      ∙ unscrambled-is sent ys h (e ∙ ap₂ (λ (p : Register) (l : List ℕ). partAnswer Unscramble p (take (length sent - 2 - 1) (drop 1 l))) its whole)
+      let n = length sent - 2 - 1 in
+      ap (λ (l : List ℕ). take 1 l ++ (ys ++ drop n (drop 1 l))) whole
+      ∙ unscrambled-is sent ys h (e ∙ ap₂ (λ (p : Register) (l : List ℕ). partAnswer Unscramble p (take n (drop 1 l))) its whole)
 
-  pub length-clear : (part : List ℕ) → 3 ≤ length part → length (clear r part) ≡ length part - 2
+  length-clear : (part : List ℕ) → 3 ≤ length part → length (clear r part) ≡ length part - 2
   unfolding clearBody
   length-clear [] h = absurd (omega arith)
   length-clear (x ∷ xs) h =
@@ -179,14 +186,13 @@ module _ (r : Register) where
   sealed-is (x ∷ xs) ys sum h small s e =
       let m = length xs - 2 in
       let long : length xs ≡ m + 2 = omega arith in
-      let body : ys ≡ partAnswer Scramble r (bodyIn (x ∷ xs)) = e ∙ ap (partAnswer Scramble r) (lent-is x xs m long ∙ sym (body-is x xs m long)) in
-      let wide : suc m ≡ length (x ∷ ys) =
-      ap suc (sym (ap length body ∙ length-answer Scramble r (bodyIn (x ∷ xs)) ∙ ap length (body-is x xs m long) ∙ body-length x xs m long)) in
+      let body : ys ≡ partAnswer Scramble r (bodyIn (x ∷ xs)) = e ∙ ap (partAnswer Scramble r) (lent-body-is x xs m long) in
+      let kept : length ys ≡ length (bodyIn (x ∷ xs)) = ap length body ∙ length-answer Scramble r (bodyIn (x ∷ xs)) in
+      let wide : suc m ≡ length (x ∷ ys) = ap suc (sym (kept ∙ ap length (body-is x xs m long) ∙ body-length x xs m long)) in
       ap₂ (λ (l : List ℕ) (k : ℕ). set (set l k (sum / 256)) (k + 1) (sum % 256)) (put-is x xs m long ys) (end-is x xs m long ∙ wide)
       ∙ put-two (x ∷ ys) (drop m xs) (sum / 256) (sum % 256) (sum-length x xs m long)
       ∙ ap (λ (l : List ℕ). x ∷ l)
-      (ap₂ _++_ body
-      (sym (two-bytes sum small) ∙ ap (inBytes 2) (s ∙ ap checksum (front-is x xs m long ∙ ap (λ (l : List ℕ). x ∷ l) (sym (body-is x xs m long))))))
+      (ap₂ _++_ body (sym (two-bytes sum small) ∙ ap (inBytes 2) (s ∙ ap checksum (front-body-is x xs m long))))
 
 -- ---- a part with another first byte and body
 
@@ -195,8 +201,9 @@ length-put [] ys h e = absurd (omega arith)
 length-put (x ∷ xs) ys h e =
     let m = length xs - 2 in
     let long : length xs ≡ m + 2 = omega arith in
+    let wide : length ys ≡ m = e ∙ ap length (lent-is x xs m long) ∙ body-length x xs m long in
     ap length (put-is x xs m long ys)
-    ∙ ap suc (length-append ys (drop m xs) ∙ rw (e, lent-is x xs m long, body-length x xs m long, sum-length x xs m long) (omega (arith, long)))
+    ∙ ap suc (length-append ys (drop m xs) ∙ omega (arith, wide, sum-length x xs m long, long))
 
 pub body-put : (part ys : List ℕ) (v : ℕ) → 3 ≤ length part → length ys ≡ length (lent part) → bodyIn (set (put part ys) 0 v) ≡ ys
 body-put [] ys v h e = absurd (omega arith)

@@ -40,8 +40,12 @@ length-ahead s size =
     by false = omega arith
 
 -- what a comparison tells, as a test
-abbrev pub Compares : Bool → List ℕ → List ℕ → Type 0
+abbrev Compares : Bool → List ℕ → List ℕ → Type 0
 Compares b xs ys = (b ≡ true → xs ≡ ys) × (xs ≡ ys → b ≡ true)
+
+-- n bytes of training and two of sync, put over the start of a part
+abbrev pub over : ℕ → List ℕ → List ℕ → List ℕ
+over n p1 ys = take n p1 ++ (ys ++ drop (n + 2 - n) (drop n p1))
 
 module _ (s : Satellite) (n : ℕ) (its : n ≡ trainingOf s) where
   taken : take n sixteen ≡ training s
@@ -59,7 +63,7 @@ module _ (s : Satellite) (n : ℕ) (its : n ≡ trainingOf s) where
       let two : n + 2 - n ≡ 2 = omega arith in
       is-same b (take (n + 2 - n) (drop n frame)) sync e ∙ rw (two, its)
 
-  -- training and sync, put over the start of a part
+  -- the part as it then is
   module _ (p p1 ys : List ℕ)
       (first : p1 ≡ take (length (take (n - 0) sixteen)) (take (n - 0) sixteen) ++ drop (length (take (n - 0) sixteen)) p)
       (second : ys ≡ take 2 sync ++ drop 2 (take (n + 2 - n) (drop n p1))) where
@@ -80,38 +84,40 @@ module _ (s : Satellite) (n : ℕ) (its : n ≡ trainingOf s) where
         let two : n + 2 - n ≡ 2 = omega arith in
         second ∙ rw two (ap (λ (l : List ℕ). sync ++ l) (drop-of-length-le (take 2 (drop n p1)) {i = 2} (rw length-take (omega arith))))
 
-    pub joined : take n p1 ++ (ys ++ drop (n + 2 - n) (drop n p1)) ≡ training s ++ (sync ++ drop 2 (drop n p))
+    joined : over n p1 ys ≡ training s ++ (sync ++ drop 2 (drop n p))
     joined =
         let two : n + 2 - n ≡ 2 = omega arith in
-        rw (two, behind-is, second-is) (ap (λ (l : List ℕ). l ++ (sync ++ drop 2 (drop n p))) (ap (take n) first-is ∙ take-at (training s) (drop n p) n as-long))
+        let front = ap (take n) first-is ∙ take-at (training s) (drop n p) n as-long in
+        rw (two, behind-is, second-is) (ap (λ (l : List ℕ). l ++ (sync ++ drop 2 (drop n p))) front)
 
-    pub length-joined : length p ≡ typeByteAt s → length (take n p1 ++ (ys ++ drop (n + 2 - n) (drop n p1))) ≡ length p
+    pub length-joined : length p ≡ typeByteAt s → length (over n p1 ys) ≡ length p
     length-joined long =
         ap length joined
         ∙ length-append (training s) (sync ++ drop 2 (drop n p))
         ∙ rw (as-long, length-drop 2 (drop n p), length-drop n p) (omega (arith, long, its))
 
-    pub room-for-size : length p ≡ typeByteAt s → sizeByteOf s ≡ true → n + 2 < length (take n p1 ++ (ys ++ drop (n + 2 - n) (drop n p1)))
+    pub room-for-size : length p ≡ typeByteAt s → sizeByteOf s ≡ true → n + 2 < length (over n p1 ys)
     room-for-size long has =
         let more : typeByteAt s ≡ trainingOf s + 2 + 1 = ap (λ (b : Bool). trainingOf s + 2 + cond b 1 0) has in
         omega (arith, length-joined long, long, more, its)
 
     -- with no size byte, that is all
     pub whole : (size : ℕ) → length p ≡ typeByteAt s → sizeByteOf s ≡ false
-        → take n p1 ++ (ys ++ drop (n + 2 - n) (drop n p1)) ≡ ahead s size
+        → over n p1 ys ≡ ahead s size
     whole size long none =
         let short : typeByteAt s ≡ trainingOf s + 2 + 0 = ap (λ (b : Bool). trainingOf s + 2 + cond b 1 0) none in
         joined
-        ∙ ap (λ (l : List ℕ). training s ++ (sync ++ l)) (drop-of-length-le (drop n p) {i = 2} (rw length-drop (omega (arith, long, short, its))))
+        ∙ ap (λ (l : List ℕ). training s ++ (sync ++ l))
+        (drop-of-length-le (drop n p) {i = 2} (rw length-drop (omega (arith, long, short, its))))
         ∙ sym (ap (λ (b : Bool). training s ++ (sync ++ cond b (size ∷ []) [])) none)
 
-    pub sized : (size : ℕ) → length p ≡ typeByteAt s → sizeByteOf s ≡ true
-        → set (take n p1 ++ (ys ++ drop (n + 2 - n) (drop n p1))) (n + 2) size ≡ ahead s size
+    pub sized : (size : ℕ) → length p ≡ typeByteAt s → sizeByteOf s ≡ true → set (over n p1 ys) (n + 2) size ≡ ahead s size
     sized size long has =
         let more : typeByteAt s ≡ trainingOf s + 2 + 1 = ap (λ (b : Bool). trainingOf s + 2 + cond b 1 0) has in
         let one : length (drop 2 (drop n p)) ≡ 1 =
         rw (length-drop 2 (drop n p), length-drop n p) (omega (arith, long, more, its)) in
         ap (λ (l : List ℕ). set l (n + 2) size) (joined ∙ sym (append-assoc (training s) sync (drop 2 (drop n p))))
-        ∙ put-one (training s ++ sync) (drop 2 (drop n p)) (n + 2) size (length-append (training s) sync ∙ ap (λ (k : ℕ). k + 2) as-long) one
+        ∙ put-one (training s ++ sync) (drop 2 (drop n p)) (n + 2) size
+        (length-append (training s) sync ∙ ap (λ (k : ℕ). k + 2) as-long) one
         ∙ append-assoc (training s) sync (size ∷ [])
         ∙ sym (ap (λ (b : Bool). training s ++ (sync ++ cond b (size ∷ []) [])) has)

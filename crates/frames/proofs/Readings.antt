@@ -6,12 +6,10 @@ use native.Mathlib.Omega.{arith}
 use mathlib.Core.Path.{_≡_, refl, sym, _∙_, ap}
 use mathlib.Core.Bool.{true, false}
 use mathlib.Core.List.{List, [], _∷_, _++_}
-use lib.Dec.{eqb}
 use lib.ListN.{length, take, drop, length-drop}
 use lib.Seq.{take-all}
 use borrow.Author.Tests.{ltb-true, eq-eqb, ne-eqb, le-leb, lt-leb}
 use Rattle.bits.specs.Bits.{bitsOf}
-use Rattle.checksum.specs.Checksum.{checksum}
 use Rattle.scrambler.specs.declared.Register.{Register}
 use Rattle.scrambler.specs.declared.Direction.the-variants.{Unscramble}
 use Rattle.scrambler.proofs.Parts.{length-answer}
@@ -23,9 +21,11 @@ use Rattle.layouts.specs.Layouts.{total, carries, layoutOf}
 use Rattle.layouts.proofs.Entries.{tiles-body, widths-allowed, size-most}
 use Rattle.bodies.specs.Bodies.{told, filled, valuesFrom, widthsIn}
 use Rattle.bodies.proofs.Laws.{length-told, filled-enough, widths-in, values-told}
+use Rattle.frames.specs.declared.Reading.{Reading}
 use Rattle.frames.specs.Tests.{Test, refusal, AllHold}
-use Rattle.frames.specs.Frames.{frameLength, fromTypeByte, checksumIn, clearBody, clear, bodyIn, typeOf, entryIn, valuesOf}
-use Rattle.frames.specs.Reading.{frontTests, lengthTest, roomTest, checksumTest, readingTests, acceptedReading, refusedReading, reading, roomAfter}
+use Rattle.frames.specs.Frames.{frameLength, fromTypeByte, clearBody, bodyIn, typeOf, entryIn, valuesOf}
+use Rattle.frames.specs.Reading.{checksumRight, frontTests, lengthTest, roomTest, checksumTest, readingTests}
+use Rattle.frames.specs.Reading.{acceptedReading, refusedReading, reading, roomAfter, toldTo}
 use Rattle.frames.proofs.Tests.{goes, stops, none-left, Numbered, all-hold, behind-held, behind-failed}
 use Rattle.frames.proofs.Parts.{length-body}
 use Rattle.frames.proofs.Assembled.{three-least}
@@ -35,25 +35,35 @@ pub unknown-refused : (r : Register) (frame room : List ℕ)
 unfolding reading roomAfter readingTests refusal
 unknown-refused r frame room = (refl, refl)
 
+-- an answer that accepts, with the type and the count that it tells
+abbrev pub readAs : ℕ → ℕ → Reading
+readAs t n = record { refusal = 0; ty = t; count = n }
+
 module _ (r : Register) (s : Satellite) (frame room : List ℕ) where
   abbrev number : ℕ
   number = refusal (readingTests r (Is s) frame room)
 
   -- what a number means
-  pub refused-with : (k : ℕ) → number ≡ k → (k ≡ 0 → ⊥) → (refusedReading k ≡ reading r (Is s) frame room) × (room ≡ roomAfter r (Is s) frame room)
+  abbrev Refuses : ℕ → Type 0
+  Refuses k = (refusedReading k ≡ reading r (Is s) frame room) × (room ≡ roomAfter r (Is s) frame room)
+
+  pub refused-with : (k : ℕ) → number ≡ k → (k ≡ 0 → ⊥) → Refuses k
   unfolding reading roomAfter
   refused-with k e some = let no = ne-eqb k 0 some in (rw (e, no), rw (e, no))
 
   pub accepted-with : number ≡ 0
-      → (acceptedReading (typeOf s frame) (length (entryIn s frame .widths)) ≡ reading r (Is s) frame room)
+      → (acceptedReading s frame ≡ reading r (Is s) frame room)
       × (valuesOf r s frame ++ drop (length (entryIn s frame .widths)) room ≡ roomAfter r (Is s) frame room)
   unfolding reading roomAfter
   accepted-with e = (rw e, rw e)
 
   -- tests 2 to 6
-  pub front-fails : (k : ℕ) → refusal (frontTests s frame) ≡ k → (k ≡ 0 → ⊥) → number ≡ k
+  front-fails : (k : ℕ) → refusal (frontTests s frame) ≡ k → (k ≡ 0 → ⊥) → number ≡ k
   unfolding readingTests
   front-fails k e some = goes 1 true _ refl ∙ behind-failed (frontTests s frame) _ (λ z. some (sym e ∙ z)) ∙ e
+
+  pub front-refuses : (k : ℕ) → refusal (frontTests s frame) ≡ k → (k ≡ 0 → ⊥) → Refuses k
+  front-refuses k e some = refused-with k (front-fails k e some) some
 
   front-numbered : Numbered (frontTests s frame)
   unfolding frontTests every
@@ -67,7 +77,7 @@ module _ (r : Register) (s : Satellite) (frame room : List ℕ) where
     unfolding frontTests
     is-long = ltb-true (typeByteAt s) (length frame) (front-holds 0 (omega arith))
 
-    pub is-carried : carries s (typeOf s frame) ≡ true
+    is-carried : carries s (typeOf s frame) ≡ true
     unfolding frontTests
     is-carried = front-holds 3 (omega arith)
 
@@ -82,8 +92,9 @@ module _ (r : Register) (s : Satellite) (frame room : List ℕ) where
     unfolding readingTests
     front-passed = goes 1 true _ refl ∙ behind-held (frontTests s frame) rest front-holds
 
-    pub fails-7 : (length frame ≡ frameLength s (typeOf s frame) → ⊥) → number ≡ 7
-    fails-7 other = front-passed ∙ stops 7 _ _ (ne-eqb (length frame) (frameLength s (typeOf s frame)) other)
+    pub refuses-7 : (length frame ≡ frameLength s (typeOf s frame) → ⊥) → Refuses 7
+    refuses-7 other =
+        refused-with 7 (front-passed ∙ stops 7 _ _ (ne-eqb (length frame) (frameLength s (typeOf s frame)) other)) (λ e. omega (arith, e))
 
     module _ (long : length frame ≡ frameLength s (typeOf s frame)) where
       abbrev part : List ℕ
@@ -92,10 +103,11 @@ module _ (r : Register) (s : Satellite) (frame room : List ℕ) where
       passed-7 : number ≡ refusal (roomTest s frame room ∷ checksumTest r s frame ∷ [])
       passed-7 = front-passed ∙ goes 7 _ _ (eq-eqb (length frame) (frameLength s (typeOf s frame)) long)
 
-      pub fails-8 : length room < length (entryIn s frame .widths) → number ≡ 8
-      fails-8 small = passed-7 ∙ stops 8 _ _ (lt-leb (length (entryIn s frame .widths)) (length room) small)
+      pub refuses-8 : length room < length (entryIn s frame .widths) → Refuses 8
+      refuses-8 small =
+          refused-with 8 (passed-7 ∙ stops 8 _ _ (lt-leb (length (entryIn s frame .widths)) (length room) small)) (λ e. omega (arith, e))
 
-      pub part-length : length part ≡ entryIn s frame .size
+      part-length : length part ≡ entryIn s frame .size
       part-length = length-drop (typeByteAt s) frame ∙ omega (arith, long)
 
       pub part-least : 3 ≤ length part
@@ -111,25 +123,37 @@ module _ (r : Register) (s : Satellite) (frame room : List ℕ) where
         passed-8 : number ≡ refusal (checksumTest r s frame ∷ [])
         passed-8 = passed-7 ∙ goes 8 _ _ (le-leb (length (entryIn s frame .widths)) (length room) enough)
 
-        pub fails-9 : eqb (checksumIn part) (checksum (clear r part)) ≡ false → number ≡ 9
-        fails-9 other = passed-8 ∙ stops 9 _ [] other
+        pub refuses-9 : checksumRight r part ≡ false → Refuses 9
+        refuses-9 other = refused-with 9 (passed-8 ∙ stops 9 _ [] other) (λ e. omega (arith, e))
 
-        pub none-fails : eqb (checksumIn part) (checksum (clear r part)) ≡ true → number ≡ 0
+        pub none-fails : checksumRight r part ≡ true → number ≡ 0
         none-fails same = passed-8 ∙ goes 9 _ [] same ∙ none-left
 
         -- the room, filled from the unscrambled body
         clear-tiled : total (entryIn s frame .widths) ≡ 8 * length (clearBody r part)
         unfolding clearBody
         clear-tiled =
-            omega (arith, tiles-body s (typeOf s frame) is-carried, length-answer Unscramble r (bodyIn part), length-body part part-least, part-length)
+            omega (
+              arith,
+              tiles-body s (typeOf s frame) is-carried,
+              length-answer Unscramble r (bodyIn part),
+              length-body part part-least,
+              part-length,
+            )
 
-        pub told-room : filled (valuesFrom 0 (widthsIn (layoutOf s (typeOf s frame))) (clearBody r part)) room
+        told-room : filled (valuesFrom 0 (widthsIn (layoutOf s (typeOf s frame))) (clearBody r part)) room
             ≡ valuesOf r s frame ++ drop (length (entryIn s frame .widths)) room
         unfolding valuesOf
         told-room =
             let ws = entryIn s frame .widths in
             let bs = bitsOf (clearBody r part) in
             ap (λ (l : List ℕ). filled (valuesFrom 0 l (clearBody r part)) room) (widths-in s (typeOf s frame))
-            ∙ ap (λ (l : List ℕ). filled l room) (values-told ws (clearBody r part) clear-tiled (widths-allowed s (typeOf s frame) is-carried))
+            ∙ ap (λ (l : List ℕ). filled l room)
+            (values-told ws (clearBody r part) clear-tiled (widths-allowed s (typeOf s frame) is-carried))
             ∙ filled-enough (told ws bs) room (omega (arith, length-told ws bs, enough))
             ∙ ap (λ (n : ℕ). told ws bs ++ drop n room) (length-told ws bs)
+
+        pub accepts : checksumRight r part ≡ true
+            → (acceptedReading s frame ≡ reading r (Is s) frame room)
+            × (toldTo true (layoutOf s (typeOf s frame)) (clearBody r part) room ≡ roomAfter r (Is s) frame room)
+        accepts same = let told = accepted-with (none-fails same) in (told .0, told-room ∙ told .1)

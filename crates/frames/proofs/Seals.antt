@@ -33,8 +33,8 @@ said : (v : ℕ) → v < 2 ^ 16 → number (bitsOf (inBytes 2 v)) ≡ v
 said v small = ap number (bitsOf-packed 2 (bits 16 v) (length-bits 16 v)) ∙ number-bits 16 v ∙ mod-eq-of-lt small
 
 -- and two bytes are those of what they say
-two-bytes : (l : List ℕ) → length l ≡ 2 → Bytes l → inBytes 2 (number (bitsOf l)) ≡ l
-two-bytes l two b =
+two-again : (l : List ℕ) → length l ≡ 2 → Bytes l → inBytes 2 (number (bitsOf l)) ≡ l
+two-again l two b =
     ap (packed 2) (bits-of 16 (bitsOf l) (length-bitsOf l ∙ ap (λ (n : ℕ). 8 * n) two))
     ∙ ap (λ (n : ℕ). packed n (bitsOf l)) (sym two) ∙ packed-bitsOf l b
 
@@ -56,7 +56,7 @@ module _ (r : Register) where
     sent-length : length sent ≡ length part - 2
     sent-length = omega (arith, ap suc (length-answer Scramble r body), length-sealed r x body)
 
-    pub sealed-covered : covered part ≡ sent
+    sealed-covered : covered part ≡ sent
     sealed-covered = ap (take (length part - 2)) split ∙ take-at sent sum (length part - 2) sent-length
 
     pub sealed-checksum : checksumIn part ≡ checksum (x ∷ body)
@@ -84,5 +84,5 @@ module _ (r : Register) where
       ap (λ (l : List ℕ). x ∷ l)
       (ap₂ _++_
       (answer-inverse Unscramble r body (drop-bytes 1 (take n (x ∷ xs)) (take-bytes n (x ∷ xs) b)))
-      (ap (inBytes 2) (sym right) ∙ two-bytes last (length-drop n (x ∷ xs) ∙ omega arith) (drop-bytes n (x ∷ xs) b)))
+      (ap (inBytes 2) (sym right) ∙ two-again last (length-drop n (x ∷ xs) ∙ omega arith) (drop-bytes n (x ∷ xs) b)))
       ∙ ap (λ (l : List ℕ). x ∷ l) (ap₂ _++_ (body-is x xs m long) (sum-is x xs m long) ∙ take-append-drop m xs)

@@ -32,7 +32,7 @@ none-left = refl
 abbrev pub Numbered : List Test → Type 0
 Numbered ts = T (every (λ t. ltb 0 (t .number)) ts)
 
--- all tests hold exactly where 0 is answered
+-- where 0 is answered, all tests hold
 pub all-hold : (ts : List Test) → Numbered ts → refusal ts ≡ 0 → AllHold ts
 unfolding refusal every
 all-hold [] n e i h = absurd (not-suc-le-zero h)

@@ -20,7 +20,8 @@ use Rattle.layouts.specs.Layouts.{total, carries, entryOf}
 use Rattle.layouts.proofs.Entries.{tiles-body}
 use Rattle.bodies.specs.Bodies.{told, tiled, fitting}
 use Rattle.bodies.proofs.Laws.{length-tiled, told-tiled, tiled-told}
-use Rattle.frames.specs.Frames.{training, sync, sizeByte, ahead, typeByte, sealed, bodyOf, frameOf, frameLength, fromTypeByte, checksumIn, bodyIn, covered, clearBody, clear}
+use Rattle.frames.specs.Frames.{sizeIn, training, sync, sizeByte, ahead, typeByte, sealed, bodyOf, frameOf, frameLength}
+use Rattle.frames.specs.Frames.{fromTypeByte, checksumIn, bodyIn, covered, clearBody, clear}
 use Rattle.frames.proofs.Fronts.{first-at}
 use Rattle.frames.proofs.Preambles.{length-ahead}
 use Rattle.frames.proofs.Parts.{length-body, length-sealed}
@@ -40,7 +41,7 @@ module _ (r : Register) (s : Satellite) (t : ℕ) (carried : carries s t ≡ tru
       (trained : take (trainingOf s) frame ≡ training s)
       (synced : take 2 (drop (trainingOf s) frame) ≡ sync)
       (typed : getD frame (typeByteAt s) 0 ≡ typeByte s t)
-      (sized : sizeByteOf s ≡ true → getD frame (typeByteAt s - 1) 0 ≡ size)
+      (sized : sizeByteOf s ≡ true → sizeIn s frame ≡ size)
       (long : length frame ≡ frameLength s t)
       (right : checksumIn (fromTypeByte s frame) ≡ checksum (clear r (fromTypeByte s frame))) where
     abbrev part : List ℕ
@@ -105,54 +106,60 @@ module _ (r : Register) (s : Satellite) (t : ℕ) (carried : carries s t ≡ tru
     abbrev frame : List ℕ
     frame = frameOf r s t values
 
-    behind : drop (typeByteAt s) frame ≡ sealed r (typeByte s t) body
+    abbrev sent : List ℕ
+    sent = sealed r (typeByte s t) body
+
+    behind : drop (typeByteAt s) frame ≡ sent
     unfolding frameOf
-    behind = drop-at (ahead s size) (sealed r (typeByte s t) body) (typeByteAt s) (length-ahead s size)
+    behind = drop-at (ahead s size) sent (typeByteAt s) (length-ahead s size)
+
+    sent-length : length sent ≡ size
+    sent-length =
+        length-sealed r (typeByte s t) body
+        ∙ ap (λ (n : ℕ). n + 3) (length-packed (size - 3) (tiled ws values))
+        ∙ omega (arith, three-least s t carried)
 
     pub its-length : length frame ≡ frameLength s t
     unfolding frameOf
-    its-length =
-        length-append (ahead s size) (sealed r (typeByte s t) body)
-        ∙ ap₂ _+_ (length-ahead s size)
-        (length-sealed r (typeByte s t) body ∙ ap (λ (n : ℕ). n + 3) (length-packed (size - 3) (tiled ws values)) ∙ omega (arith, three-least s t carried))
+    its-length = length-append (ahead s size) sent ∙ ap₂ _+_ (length-ahead s size) sent-length
 
     pub its-training : take (trainingOf s) frame ≡ training s
     unfolding frameOf
     its-training =
-        ap (take (trainingOf s)) (append-assoc (training s) (sync ++ sizeByte s size) (sealed r (typeByte s t) body))
+        ap (take (trainingOf s)) (append-assoc (training s) (sync ++ sizeByte s size) sent)
         ∙ take-at (training s) _ (trainingOf s) (length-replicate (trainingOf s) 0xAA)
 
     pub its-sync : take 2 (drop (trainingOf s) frame) ≡ sync
     unfolding frameOf
     its-sync =
-        ap (λ (l : List ℕ). take 2 (drop (trainingOf s) l)) (append-assoc (training s) (sync ++ sizeByte s size) (sealed r (typeByte s t) body))
+        ap (λ (l : List ℕ). take 2 (drop (trainingOf s) l)) (append-assoc (training s) (sync ++ sizeByte s size) sent)
         ∙ ap (take 2) (drop-at (training s) _ (trainingOf s) (length-replicate (trainingOf s) 0xAA))
 
     pub its-type-byte : getD frame (typeByteAt s) 0 ≡ typeByte s t
     its-type-byte = sym (first-at (typeByteAt s) frame) ∙ ap (λ (l : List ℕ). getD l 0 0) behind ∙ sealed-first r (typeByte s t) body
 
-    pub its-size-byte : sizeByteOf s ≡ true → getD frame (typeByteAt s - 1) 0 ≡ size
+    pub its-size-byte : sizeByteOf s ≡ true → sizeIn s frame ≡ size
     unfolding frameOf
     its-size-byte has =
         let at : typeByteAt s ≡ trainingOf s + 2 + 1 = ap (λ (b : Bool). trainingOf s + 2 + cond b 1 0) has in
         let all : length (training s) ≡ trainingOf s = length-replicate (trainingOf s) 0xAA in
         let place : typeByteAt s - 1 ≡ length (training s) + 2 = omega (arith, at, all) in
         ap (λ (k : ℕ). getD frame k 0) place
-        ∙ List·getD-append (ahead s size) (sealed r (typeByte s t) body) 0 (length (training s) + 2) (omega (arith, length-ahead s size, at, all))
+        ∙ List·getD-append (ahead s size) sent 0 (length (training s) + 2) (omega (arith, length-ahead s size, at, all))
         ∙ ap (λ (b : Bool). getD (training s ++ (sync ++ cond b (size ∷ []) [])) (length (training s) + 2) 0) has
         ∙ getD-append-add (training s) (sync ++ (size ∷ [])) 2 0
+
+    clear-again : clearBody r (fromTypeByte s frame) ≡ body
+    clear-again = ap (clearBody r) behind ∙ sealed-clear r (typeByte s t) body (packed-bytes (size - 3) (tiled ws values))
 
     pub its-checksum : checksumIn (fromTypeByte s frame) ≡ checksum (clear r (fromTypeByte s frame))
     its-checksum =
         ap checksumIn behind ∙ sealed-checksum r (typeByte s t) body
         ∙ ap checksum (ap₂ _∷_ (sym (ap (λ (l : List ℕ). getD l 0 0) behind ∙ sealed-first r (typeByte s t) body)) (sym clear-again))
-      where
-        clear-again : clearBody r (fromTypeByte s frame) ≡ body
-        clear-again = ap (clearBody r) behind ∙ sealed-clear r (typeByte s t) body (packed-bytes (size - 3) (tiled ws values))
 
-    pub values-again : length values ≡ length ws → fitting ws values ≡ length ws → told ws (bitsOf (clearBody r (fromTypeByte s frame))) ≡ values
+    pub values-again : length values ≡ length ws → fitting ws values ≡ length ws
+        → told ws (bitsOf (clearBody r (fromTypeByte s frame))) ≡ values
     values-again as-many fit =
-        ap (λ (l : List ℕ). told ws (bitsOf l))
-        (ap (clearBody r) behind ∙ sealed-clear r (typeByte s t) body (packed-bytes (size - 3) (tiled ws values)))
+        ap (λ (l : List ℕ). told ws (bitsOf l)) clear-again
         ∙ ap (told ws) (bitsOf-packed (size - 3) (tiled ws values) (length-tiled ws values ∙ sym (size-least s t carried)))
         ∙ told-tiled ws values as-many fit

@@ -53,6 +53,10 @@ frameLength s t = typeByteAt s + entryOf s t .size
 
 -- ---- the parts of a frame that came
 
+-- the byte ahead of the type byte: the size byte, where there is one
+abbrev pub sizeIn : Satellite → List ℕ → ℕ
+sizeIn s frame = getD frame (typeByteAt s - 1) 0
+
 -- from type byte to checksum
 abbrev pub fromTypeByte : Satellite → List ℕ → List ℕ
 fromTypeByte s frame = drop (typeByteAt s) frame

@@ -2,7 +2,7 @@
 use Prim.Native.Nat.{ℕ, _-_}
 use mathlib.Core.Bool.{Bool, true, false, not, _&&_, _||_, cond}
 use mathlib.Core.List.{List, [], _∷_, _++_}
-use lib.ListN.{length, getD, take, drop}
+use lib.ListN.{length, take, drop}
 use lib.Dec.{eqb, leb, ltb}
 use Rattle.checksum.specs.Checksum.{checksum}
 use Rattle.scrambler.specs.declared.Register.{Register}
@@ -16,7 +16,12 @@ use Rattle.bodies.specs.Bodies.{filled, valuesFrom, widthsIn}
 use Rattle.frames.specs.declared.Reading.{Reading}
 use Rattle.frames.specs.declared.front.Front.{Front}
 use Rattle.frames.specs.Tests.{Test, test, refusal, same}
-use Rattle.frames.specs.Frames.{training, sync, frameLength, fromTypeByte, addressIn, checksumIn, clear, typeOf, entryIn, valuesOf}
+use Rattle.frames.specs.Frames.{training, sync, frameLength}
+use Rattle.frames.specs.Frames.{sizeIn, fromTypeByte, addressIn, checksumIn, clear, typeOf, entryIn, valuesOf}
+
+-- training and sync are the satellite's
+abbrev pub preambled : Satellite → List ℕ → Bool
+preambled s frame = same (take (trainingOf s) frame) (training s) && same (take 2 (drop (trainingOf s) frame)) sync
 
 -- 2 to 6, on a frame's front
 unfoldable pub frontTests : Satellite → List ℕ → List Test
@@ -24,13 +29,13 @@ frontTests s frame =
     -- "fewer bytes than training, sync, size byte if any, and type byte"
     test 2 (ltb (typeByteAt s) (length frame))
     -- "training or sync differs"
-    ∷ test 3 (same (take (trainingOf s) frame) (training s) && same (take 2 (drop (trainingOf s) frame)) sync)
+    ∷ test 3 (preambled s frame)
     -- "address is another's"
     ∷ test 4 (eqb (addressIn (fromTypeByte s frame)) (addressOf s))
     -- "type not carried by this satellite"
     ∷ test 5 (carries s (typeOf s frame))
     -- "size byte differs from the table", where there is one
-    ∷ test 6 (not (sizeByteOf s) || eqb (getD frame (typeByteAt s - 1) 0) (entryIn s frame .size))
+    ∷ test 6 (not (sizeByteOf s) || eqb (sizeIn s frame) (entryIn s frame .size))
     ∷ []
 
 -- "buffer length is not the frame's length"
@@ -41,9 +46,13 @@ lengthTest s frame = test 7 (eqb (length frame) (frameLength s (typeOf s frame))
 abbrev pub roomTest : Satellite → List ℕ → List ℕ → Test
 roomTest s frame room = test 8 (leb (length (entryIn s frame .widths)) (length room))
 
+-- the checksum of a part, against type and address and the unscrambled body
+abbrev pub checksumRight : Register → List ℕ → Bool
+checksumRight r part = eqb (checksumIn part) (checksum (clear r part))
+
 -- "checksum differs"
 abbrev pub checksumTest : Register → Satellite → List ℕ → Test
-checksumTest r s frame = test 9 (eqb (checksumIn (fromTypeByte s frame)) (checksum (clear r (fromTypeByte s frame))))
+checksumTest r s frame = test 9 (checksumRight r (fromTypeByte s frame))
 
 -- "Reading (satellite, frame, room of 32-bit numbers) tests 1 to 9 in that order": 1, "satellite number above 6", is what
 -- the number names
@@ -53,8 +62,8 @@ readingTests r (Is s) frame room =
     test 1 true ∷ (frontTests s frame ++ (lengthTest s frame ∷ roomTest s frame room ∷ checksumTest r s frame ∷ []))
 
 -- "It answers the number, the type and the field count"
-abbrev pub acceptedReading : ℕ → ℕ → Reading
-acceptedReading ty count = record { refusal = 0; ty = ty; count = count }
+abbrev pub acceptedReading : Satellite → List ℕ → Reading
+acceptedReading s frame = record { refusal = 0; ty = typeOf s frame; count = length (entryIn s frame .widths) }
 
 -- "A refusal answers type 0, count 0"
 abbrev pub refusedReading : ℕ → Reading
@@ -64,7 +73,7 @@ unfoldable pub reading : Register → Known → List ℕ → List ℕ → Readin
 reading r Unknown frame room = refusedReading (refusal (readingTests r Unknown frame room))
 reading r (Is s) frame room =
     let number = refusal (readingTests r (Is s) frame room) in
-    cond (eqb number 0) (acceptedReading (typeOf s frame) (length (entryIn s frame .widths))) (refusedReading number)
+    cond (eqb number 0) (acceptedReading s frame) (refusedReading number)
 
 -- "and fills that many places of the room; later places stay"
 unfoldable pub roomAfter : Register → Known → List ℕ → List ℕ → List ℕ

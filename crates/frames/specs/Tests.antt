@@ -1,4 +1,5 @@
 -- Tests in an order (01, "What is refused, and in which order"; FORMAT 7).
+use Prim.{⊥}
 use Prim.Native.Nat.{ℕ, _<_}
 use mathlib.Core.Path.{_≡_}
 use mathlib.Core.Bool.{Bool, true, false, _&&_, cond}
@@ -30,6 +31,21 @@ pub record FirstFails (k : ℕ) (ts : List Test) : Type 0 where
 -- all of them hold
 abbrev pub AllHold : List Test → Type 0
 AllHold ts = (i : ℕ) → i < length ts → getD ts i (test 0 true) .holds ≡ true
+
+-- a test and a statement: it holds exactly where the statement does
+abbrev pub Iff : Bool → Type 0 → Type 0
+Iff b said = (b ≡ true → said) × (said → b ≡ true)
+
+-- what a test says: its number, and its statement
+pub data Said : Type 1 where
+  says : ℕ → Type 0 → Said
+
+-- tests say so, one after the other
+abbrev pub Mean : List Test → List Said → Type 0
+Mean [] [] = Unit {0}
+Mean [] (more ∷ said) = ⊥
+Mean (t ∷ ts) [] = ⊥
+Mean (t ∷ ts) (says k statement ∷ said) = ((t .number ≡ k) × Iff (t .holds) statement) × Mean ts said
 
 -- whether two runs of bytes are the same
 unfoldable pub same : List ℕ → List ℕ → Bool

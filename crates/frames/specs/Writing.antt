@@ -5,13 +5,16 @@ use mathlib.Core.List.{List, [], _∷_, _++_}
 use lib.ListN.{length, drop}
 use lib.Dec.{eqb, leb}
 use Rattle.scrambler.specs.declared.Register.{Register}
+use Rattle.scrambler.specs.Scrambler.{restarted}
+use Rattle.satellites.specs.declared.Satellite.{Satellite}
 use Rattle.satellites.specs.declared.Known.{Known}
 use Rattle.satellites.specs.declared.Known.the-variants.{Is, Unknown}
+use Rattle.layouts.specs.declared.Layout.{Layout}
 use Rattle.layouts.specs.Layouts.{carries, entryOf}
-use Rattle.bodies.specs.Bodies.{fitting}
+use Rattle.bodies.specs.Bodies.{fitting, laidFrom, widthsIn}
 use Rattle.frames.specs.declared.Writing.{Writing}
 use Rattle.frames.specs.Tests.{Test, test, refusal}
-use Rattle.frames.specs.Frames.{frameOf, frameLength}
+use Rattle.frames.specs.Frames.{sealed, frameOf, frameLength, bodyIn}
 
 -- "Writing (satellite, type, values, output) tests 1, 5, 10, 11, 12"
 unfoldable pub writingTests : Known → ℕ → List ℕ → List ℕ → List Test
@@ -29,8 +32,8 @@ writingTests (Is s) t values output =
     ∷ []
 
 -- "It answers the length"
-abbrev pub acceptedWriting : ℕ → Writing
-acceptedWriting len = record { refusal = 0; answer = len }
+abbrev pub acceptedWriting : Satellite → ℕ → Writing
+acceptedWriting s t = record { refusal = 0; answer = frameLength s t }
 
 -- "A refusal answers 0, except 11, which answers the lowest field number that does not fit"
 abbrev pub refusedWriting : ℕ → ℕ → Writing
@@ -40,10 +43,14 @@ unfoldable pub writing : Known → ℕ → List ℕ → List ℕ → Writing
 writing Unknown t values output = refusedWriting (refusal (writingTests Unknown t values output)) 0
 writing (Is s) t values output =
     let number = refusal (writingTests (Is s) t values output) in
-    cond (eqb number 0) (acceptedWriting (frameLength s t)) (refusedWriting number (fitting (entryOf s t .widths) values))
+    cond (eqb number 0) (acceptedWriting s t) (refusedWriting number (fitting (entryOf s t .widths) values))
 
 -- "and fills that many bytes; bytes past the frame's end stay"
 unfoldable pub outputAfter : Register → Known → ℕ → List ℕ → List ℕ → List ℕ
 outputAfter r Unknown t values output = output
 outputAfter r (Is s) t values output =
     cond (eqb (refusal (writingTests (Is s) t values output)) 0) (frameOf r s t values ++ drop (frameLength s t) output) output
+
+-- values laid into the body of a part, and the part sealed
+abbrev pub sent : ℕ → Layout → List ℕ → List ℕ → List ℕ
+sent typed layout values part = sealed restarted typed (laidFrom 0 (widthsIn layout) values (bodyIn part))

@@ -2,18 +2,17 @@
 ghost use mathlib.Core.Path.{_≡_};
 ghost use mathlib.Core.List.{_++_};
 ghost use Prim.Native.Nat.{_-_, _≤_};
-ghost use lib.Dec.{eqb};
 ghost use lib.ListN.{length, drop};
-ghost use Rattle.checksum.specs.Checksum.{checksum};
 ghost use Rattle.scrambler.specs.Scrambler.{restarted};
-ghost use Rattle.frames.specs.Frames.{clear, checksumIn};
+ghost use Rattle.frames.specs.Frames.{clear};
+ghost use Rattle.frames.specs.Reading.{checksumRight};
 use scrambler::Register;
 
 // Copies what was sent from type byte to checksum, unscrambles the copy's body, and tells whether the checksum is right.
 pub(crate) fn unscrambled(sent: &[u8], copy: &mut [u8]) -> bool
     requires { ⌜ 3 ≤ length (now sent) ⌝ }
     requires { ⌜ length (now copy) ≡ length (now sent) ⌝ }
-    ensures { λ r. ⌜ r ≡ eqb (checksumIn (now (sent .entry))) (checksum (clear restarted (now (sent .entry)))) ⌝ }
+    ensures { λ r. ⌜ r ≡ checksumRight restarted (now (sent .entry)) ⌝ }
     ensures { λ _. ⌜ now (copy .exit) ≡ clear restarted (now (sent .entry)) ++ drop (length (now (sent .entry)) - 2) (now (sent .entry)) ⌝ }
 {
     let end = sent.len() - 2;

@@ -1,17 +1,16 @@
 // What stands ahead of the type byte: training, sync, and a size byte where there is one.
 ghost use mathlib.Core.Path.{_≡_};
-ghost use mathlib.Core.Bool.{_&&_};
 ghost use Prim.Native.Nat.{_≤_};
-ghost use lib.ListN.{length, take, drop};
-ghost use Rattle.satellites.specs.Satellites.{trainingOf, typeByteAt};
-ghost use Rattle.frames.specs.Tests.{same};
-ghost use Rattle.frames.specs.Frames.{training, sync, ahead};
+ghost use lib.ListN.{length};
+ghost use Rattle.satellites.specs.Satellites.{typeByteAt};
+ghost use Rattle.frames.specs.Frames.{ahead};
+ghost use Rattle.frames.specs.Reading.{preambled};
 use satellites::Satellite;
 
 // Whether training and sync are the satellite's.
 pub(crate) fn is_right(satellite: Satellite, frame: &[u8]) -> bool
     requires { ⌜ typeByteAt satellite ≤ length (now frame) ⌝ }
-    ensures { λ r. ⌜ r ≡ (same (take (trainingOf satellite) (now (frame .entry))) (training satellite) && same (take 2 (drop (trainingOf satellite) (now (frame .entry)))) sync) ⌝ }
+    ensures { λ r. ⌜ r ≡ preambled satellite (now (frame .entry)) ⌝ }
 {
     let n = satellite.training();
     let training = [0xAAu8; Satellite::LONG_TRAINING];

@@ -1,13 +1,11 @@
 // Reading: tests 2 to 9 in their order, and only then the room is filled.
 ghost use mathlib.Core.Path.{_≡_};
 ghost use Prim.Native.Nat.{_≤_};
-ghost use lib.Dec.{eqb};
 ghost use lib.ListN.{length};
-ghost use Rattle.checksum.specs.Checksum.{checksum};
 ghost use Rattle.scrambler.specs.Scrambler.{restarted};
 ghost use Rattle.satellites.specs.declared.Known.the-variants.{Is};
-ghost use Rattle.frames.specs.Frames.{checksumIn, clear, clearBody};
-ghost use Rattle.frames.specs.Reading.{reading, roomAfter, refusedReading, toldTo};
+ghost use Rattle.frames.specs.Frames.{clearBody};
+ghost use Rattle.frames.specs.Reading.{reading, roomAfter, refusedReading, checksumRight, toldTo};
 use crate::Reading;
 use crate::clear;
 use crate::front;
@@ -59,7 +57,7 @@ pub(crate) fn read(satellite: Satellite, frame: &[u8], room: &mut [u32]) -> Read
 fn tell(layout: Layout, sent: &[u8], room: &mut [u32]) -> bool
     requires { ⌜ 3 ≤ length (now sent) ⌝ }
     requires { ⌜ length (now sent) ≤ 255 ⌝ }
-    ensures { λ r. ⌜ r ≡ eqb (checksumIn (now (sent .entry))) (checksum (clear restarted (now (sent .entry)))) ⌝ }
+    ensures { λ r. ⌜ r ≡ checksumRight restarted (now (sent .entry)) ⌝ }
     ensures { λ r. ⌜ now (room .exit) ≡ toldTo r layout (clearBody restarted (now (sent .entry))) (now (room .entry)) ⌝ }
 {
     let mut copy = [0u8; MOST_BYTES];
@@ -70,7 +68,7 @@ fn tell(layout: Layout, sent: &[u8], room: &mut [u32]) -> bool
 fn tell_from(layout: Layout, sent: &[u8], room: &mut [u32], copy: &mut [u8]) -> bool
     requires { ⌜ 3 ≤ length (now sent) ⌝ }
     requires { ⌜ length (now sent) ≤ length (now copy) ⌝ }
-    ensures { λ r. ⌜ r ≡ eqb (checksumIn (now (sent .entry))) (checksum (clear restarted (now (sent .entry)))) ⌝ }
+    ensures { λ r. ⌜ r ≡ checksumRight restarted (now (sent .entry)) ⌝ }
     ensures { λ r. ⌜ now (room .exit) ≡ toldTo r layout (clearBody restarted (now (sent .entry))) (now (room .entry)) ⌝ }
 {
     let n = sent.len();

@@ -2,13 +2,12 @@
 ghost use mathlib.Core.Path.{_≡_};
 ghost use mathlib.Core.Bool.{true};
 ghost use Prim.Native.Nat.{_≤_};
-ghost use lib.ListN.{length, getD};
+ghost use lib.ListN.{length};
 ghost use Rattle.scrambler.specs.Scrambler.{restarted};
 ghost use Rattle.satellites.specs.declared.Known.the-variants.{Is};
 ghost use Rattle.layouts.specs.Layouts.{carries, layoutOf};
-ghost use Rattle.bodies.specs.Bodies.{laidFrom, widthsIn};
-ghost use Rattle.frames.specs.Frames.{frameOf, frameLength, sealed, bodyIn};
-ghost use Rattle.frames.specs.Writing.{writing, outputAfter};
+ghost use Rattle.frames.specs.Frames.{frameOf, frameLength};
+ghost use Rattle.frames.specs.Writing.{writing, outputAfter, sent};
 use crate::Writing;
 use crate::preamble;
 use crate::refusal;
@@ -71,7 +70,7 @@ fn frame(satellite: Satellite, ty: u32, values: &[u32], layout: Layout, part: &m
 // From type byte to checksum.
 fn send(typed: u8, values: &[u32], layout: Layout, part: &mut [u8])
     requires { ⌜ 3 ≤ length (now part) ⌝ }
-    ensures { λ _. ⌜ now (part .exit) ≡ sealed restarted typed (laidFrom 0 (widthsIn layout) (now (values .entry)) (bodyIn (now (part .entry)))) ⌝ }
+    ensures { λ _. ⌜ now (part .exit) ≡ sent typed layout (now (values .entry)) (now (part .entry)) ⌝ }
 {
     let end = part.len() - 2;
     bodies::write(layout, values, &mut part[1..end]);

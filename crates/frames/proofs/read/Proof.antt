@@ -9,11 +9,6 @@ use Rattle.frames.proofs.Readings.{unknown-refused}
 use borrow.Author.Needs.{needs}
 use Rattle.frames.proofs.read.Statement.{statement}
 use Rattle.frames.proofs.read.Tie as tie
-use Rattle.frames.proofs.read.Reads as reads
-use Rattle.frames.proofs.read.Lts as lts
-use Rattle.frames.proofs.reader.read.Reads as read-reads
-use Rattle.frames.proofs.reader.refused.Reads as refused-reads
-use Rattle.satellites.proofs.Satellite.from_number.Reads as from-number-reads
 
 from-number-requires : tie.Need-from-number-requires
 from-number-requires c κs = search needs
@@ -35,10 +30,13 @@ same-length c = search needs
 
 returns : tie.Need-returns
 returns c =
-    let a = c .before .before .before .before .before .before .before .before .before .before .args in
-    let its = sym (c .before .before .before .before .before .named .given .1) ∙ c .before .before .before .before .before .before .before .from-number .ensures in (
-      c .before .before .read .ensures .0 ∙ ap (λ (k : Known). reading restarted k (now (a .frame)) (now (a .room))) its,
-      c .before .before .read .ensures .1 ∙ ap (λ (k : Known). roomAfter restarted k (now (a .frame)) (now (a .room))) its,
+    let called = c .before .before in
+    let named = called .before .before .before in
+    let asked = named .before .before in
+    let a = asked .before .before .before .args in
+    let its = sym (named .named .given .1) ∙ asked .from-number .ensures in (
+      called .read .ensures .0 ∙ ap (λ (k : Known). reading restarted k (now (a .frame)) (now (a .room))) its,
+      called .read .ensures .1 ∙ ap (λ (k : Known). roomAfter restarted k (now (a .frame)) (now (a .room))) its,
     )
 
 returns-2 : tie.Need-returns-2

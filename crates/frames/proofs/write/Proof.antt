@@ -9,11 +9,6 @@ use Rattle.frames.proofs.Writings.{unknown-refused}
 use borrow.Author.Needs.{needs}
 use Rattle.frames.proofs.write.Statement.{statement}
 use Rattle.frames.proofs.write.Tie as tie
-use Rattle.frames.proofs.write.Reads as reads
-use Rattle.frames.proofs.write.Lts as lts
-use Rattle.frames.proofs.writer.refused.Reads as refused-reads
-use Rattle.frames.proofs.writer.write.Reads as write-reads
-use Rattle.satellites.proofs.Satellite.from_number.Reads as from-number-reads
 
 from-number-requires : tie.Need-from-number-requires
 from-number-requires c κs = search needs
@@ -35,10 +30,13 @@ same-length c = search needs
 
 returns : tie.Need-returns
 returns c =
-    let a = c .before .before .before .before .before .before .before .before .before .before .args in
-    let its = sym (c .before .before .before .before .before .named .given .1) ∙ c .before .before .before .before .before .before .before .from-number .ensures in (
-      c .before .before .write .ensures .0 ∙ ap (λ (k : Known). writing k (a .ty) (now (a .values)) (now (a .output))) its,
-      c .before .before .write .ensures .1 ∙ ap (λ (k : Known). outputAfter restarted k (a .ty) (now (a .values)) (now (a .output))) its,
+    let called = c .before .before in
+    let named = called .before .before .before in
+    let asked = named .before .before in
+    let a = asked .before .before .before .args in
+    let its = sym (named .named .given .1) ∙ asked .from-number .ensures in (
+      called .write .ensures .0 ∙ ap (λ (k : Known). writing k (a .ty) (now (a .values)) (now (a .output))) its,
+      called .write .ensures .1 ∙ ap (λ (k : Known). outputAfter restarted k (a .ty) (now (a .values)) (now (a .output))) its,
     )
 
 returns-2 : tie.Need-returns-2

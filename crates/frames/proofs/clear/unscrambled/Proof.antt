@@ -1,24 +1,19 @@
 -- `frames::clear::unscrambled` meets its contract.
 -- Assumes nothing.
-use Prim.Native.Nat.{_-_}
+use Prim.Native.Nat.{ℕ, _-_}
 use native.Mathlib.Omega.{arith}
-use mathlib.Core.Path.{_∙_, ap, ap₂}
+use mathlib.Core.Path.{_≡_, _∙_, ap, ap₂}
+use mathlib.Core.List.{List, _++_}
 use lib.Dec.{eqb}
-use lib.ListN.{length, take}
+use lib.ListN.{length, take, drop}
 use Rattle.checksum.specs.Checksum.{checksum}
 use Rattle.scrambler.specs.Scrambler.{restarted}
+use Rattle.frames.specs.Frames.{clear}
 use Rattle.frames.proofs.Parts.{copied, copy-unscrambled, clear-front, last-field}
 use denote.Ref.{now}
 use borrow.Author.Needs.{needs}
 use Rattle.frames.proofs.clear.unscrambled.Statement.{statement}
 use Rattle.frames.proofs.clear.unscrambled.Tie as tie
-use Rattle.frames.proofs.clear.unscrambled.Reads as reads
-use Rattle.frames.proofs.clear.unscrambled.Lts as lts
-use Rattle.bits.proofs.read_field.Reads as read-field-reads
-use Rattle.bytes.proofs.copy.Reads as copy-reads
-use Rattle.checksum.proofs.of.Reads as of-reads
-use Rattle.scrambler.proofs.Register.restarted.Reads as restarted-reads
-use Rattle.scrambler.proofs.Register.unscramble.Reads as unscramble-reads
 
 sub-end : tie.Need-sub-end
 sub-end c = search needs
@@ -71,19 +66,42 @@ cast-result c = search needs
 same-length : tie.Need-same-length
 same-length c = search needs
 
+-- the copy, once its body is unscrambled
+module _ (c : tie.After-unscramble) where
+  abbrev fresh : tie.After-restarted
+  fresh = c .before .before
+
+  abbrev whole : tie.After-copy
+  whole = fresh .before .before .before
+
+  abbrev start : tie.Start
+  start = whole .before .before .before .before
+
+  abbrev sent : List ℕ
+  sent = now (start .args .sent)
+
+  abbrev end : ℕ
+  end = length sent - 2
+
+  abbrev copy : List ℕ
+  copy = whole .copy .last .1 .0
+
+  abbrev body : List ℕ
+  body = c .unscramble .last .1 .0
+
+  left : take 1 copy ++ (body ++ drop (end - 1) (drop 1 copy)) ≡ clear restarted sent ++ drop end sent
+  left =
+      copy-unscrambled restarted sent copy body (fresh .restarted .result) (start .pre .0)
+      (whole .copy .ensures .1 ∙ copied sent (now (start .args .copy)) (start .pre .1))
+      (fresh .restarted .ensures) (c .unscramble .ensures .bytes)
+
 returns : tie.Need-returns
 returns c =
-    let at = c .before .before .before .before .before .before .before .before .before .before .before .before in
-    let a = at .before .before .before .before .args in
-    let pre = at .before .before .before .before .pre in
-    let pass = c .before .before .before .before .before .before .before in
-    let left =
-    copy-unscrambled restarted (now (a .sent)) (at .copy .last .1 .0) (pass .unscramble .last .1 .0) (pass .before .before .restarted .result)
-    (pre .0) (at .copy .ensures .1 ∙ copied (now (a .sent)) (now (a .copy)) (pre .1)) (pass .before .before .restarted .ensures)
-    (pass .unscramble .ensures .bytes) in (
-      ap₂ eqb (c .before .before .before .read-field .ensures ∙ last-field (now (a .sent)) (omega arith))
-          (c .of .ensures ∙ ap checksum (ap (take (length (now (a .sent)) - 2 - 0)) left ∙ clear-front restarted (now (a .sent)) (pre .0))),
-      left,
+    let field = c .before .before .before in
+    let pass = field .before .before .before .before in
+    let sum = ap (take (end pass - 0)) (left pass) ∙ clear-front restarted (sent pass) (start pass .pre .0) in (
+      ap₂ eqb (field .read-field .ensures ∙ last-field (sent pass) (omega (arith, start pass .pre .0))) (c .of .ensures ∙ ap checksum sum),
+      left pass,
     )
 
 pub unscrambled-spec : {M : Type 1} → statement M

@@ -6,11 +6,6 @@ use Rattle.layouts.specs.Layouts.{layoutOf}
 use borrow.Author.Needs.{needs}
 use Rattle.frames.proofs.front.of.Statement.{statement}
 use Rattle.frames.proofs.front.of.Tie as tie
-use Rattle.frames.proofs.front.of.Reads as reads
-use Rattle.frames.proofs.front.of.Lts as lts
-use Rattle.frames.proofs.front.test.Reads as test-reads
-use Rattle.frames.proofs.front.type_sent.Reads as type-sent-reads
-use Rattle.layouts.proofs.of.Reads as of-reads
 
 type-sent-requires : tie.Need-type-sent-requires
 type-sent-requires c κs = search needs

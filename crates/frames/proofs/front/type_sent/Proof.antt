@@ -9,9 +9,6 @@ use Rattle.frames.proofs.Fronts.{first-at}
 use borrow.Author.Needs.{needs}
 use Rattle.frames.proofs.front.type_sent.Statement.{statement}
 use Rattle.frames.proofs.front.type_sent.Tie as tie
-use Rattle.frames.proofs.front.type_sent.Reads as reads
-use Rattle.frames.proofs.front.type_sent.Lts as lts
-use Rattle.satellites.proofs.Satellite.type_byte_at.Reads as type-byte-at-reads
 
 type-byte-at-requires : tie.Need-type-byte-at-requires
 type-byte-at-requires c κs = search needs

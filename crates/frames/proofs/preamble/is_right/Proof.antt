@@ -1,17 +1,17 @@
 -- `frames::preamble::is_right` meets its contract.
 -- Assumes nothing.
-use mathlib.Core.Path.{sym, _∙_}
+use mathlib.Core.Path.{_≡_, sym, _∙_}
+use lib.ListN.{take}
 use native.Mathlib.Omega.{arith}
 use denote.Ref.{now}
+use Rattle.satellites.specs.Satellites.{trainingOf}
 use Rattle.satellites.proofs.Laws.{training-most}
+use Rattle.frames.specs.Tests.{same}
+use Rattle.frames.specs.Frames.{training}
 use Rattle.frames.proofs.Preambles.{training-compared, sync-compared}
 use borrow.Author.Needs.{needs}
 use Rattle.frames.proofs.preamble.is_right.Statement.{statement}
 use Rattle.frames.proofs.preamble.is_right.Tie as tie
-use Rattle.frames.proofs.preamble.is_right.Reads as reads
-use Rattle.frames.proofs.preamble.is_right.Lts as lts
-use Rattle.check.proofs.same.Reads as same-reads
-use Rattle.satellites.proofs.Satellite.training.Reads as training-reads
 
 training-requires : tie.Need-training-requires
 training-requires c κs = search needs
@@ -57,21 +57,25 @@ slice-aggregate-same c = search needs
 same-requires-2 : tie.Need-same-requires-2
 same-requires-2 c κs = search needs
 
+-- what the first comparison says of the training
+compared : (c : tie.After-same)
+    → let start = c .before .before .before .before .before .before in
+    c .same .result ≡ same (take (trainingOf (start .args .satellite)) (now (start .args .frame))) (training (start .args .satellite))
+compared c =
+    let t = c .before .before .before .before in
+    let a = t .before .before .args in
+    training-compared (a .satellite) (t .training .result) (t .training .ensures) (c .same .result) (now (a .frame)) (c .same .ensures)
+
 returns : tie.Need-returns
 returns c =
-    let a = c .before .before .before .before .before .before .before .before .before .before .args in
-    let t = c .before .before .before .before .before .before .before .before .training in
-    let first = c .before .before .before .before .same in
-    rw (sym (training-compared (a .satellite) (t .result) (t .ensures) (first .result) (now (a .frame)) (first .ensures))
-    ∙ c .before .before .before .if1 .taken)
-    (sync-compared (a .satellite) (t .result) (t .ensures) (c .same2 .result) (now (a .frame)) (c .same2 .ensures))
+    let first = c .before .before .before .before in
+    let t = first .before .before .before .before in
+    let a = t .before .before .args in
+    rw (sym (compared first) ∙ c .before .before .before .if1 .taken)
+    (sync-compared (a .satellite) (t .training .result) (t .training .ensures) (c .same2 .result) (now (a .frame)) (c .same2 .ensures))
 
 returns-2 : tie.Need-returns-2
-returns-2 c =
-    let a = c .before .before .before .before .before .before .before .args in
-    let t = c .before .before .before .before .before .training in
-    rw (sym (training-compared (a .satellite) (t .result) (t .ensures) (c .before .same .result) (now (a .frame)) (c .before .same .ensures))
-    ∙ c .if1 .left)
+returns-2 c = rw (sym (compared (c .before)) ∙ c .if1 .left)
 
 pub is-right-spec : {M : Type 1} → statement M
 is-right-spec =

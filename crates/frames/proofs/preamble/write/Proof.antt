@@ -1,21 +1,20 @@
 -- `frames::preamble::write` meets its contract.
 -- Assumes nothing.
 use native.Mathlib.Omega.{arith}
-use mathlib.Core.Path.{sym, _∙_}
-use Prim.Native.Nat.{_+_, _-_}
-use mathlib.Core.List.{_++_}
-use lib.ListN.{take, drop, length-set}
+use mathlib.Core.Path.{_≡_, sym, _∙_}
+use mathlib.Core.Bool.{true, false}
+use mathlib.Core.List.{List}
+use Prim.Native.Nat.{ℕ, _+_, _<_}
+use lib.ListN.{length, set, length-set}
 use denote.Ref.{now}
+use Rattle.satellites.specs.declared.Satellite.{Satellite}
+use Rattle.satellites.specs.Satellites.{sizeByteOf}
 use Rattle.satellites.proofs.Laws.{training-most}
-use Rattle.frames.proofs.Preambles.{length-joined, room-for-size, whole, sized}
+use Rattle.frames.specs.Frames.{ahead}
+use Rattle.frames.proofs.Preambles.{over, length-joined, room-for-size, whole, sized}
 use borrow.Author.Needs.{needs}
 use Rattle.frames.proofs.preamble.write.Statement.{statement}
 use Rattle.frames.proofs.preamble.write.Tie as tie
-use Rattle.frames.proofs.preamble.write.Reads as reads
-use Rattle.frames.proofs.preamble.write.Lts as lts
-use Rattle.bytes.proofs.copy.Reads as copy-reads
-use Rattle.satellites.proofs.Satellite.has_size_byte.Reads as has-size-byte-reads
-use Rattle.satellites.proofs.Satellite.training.Reads as training-reads
 
 training-requires : tie.Need-training-requires
 training-requires c κs = search needs
@@ -56,37 +55,69 @@ has-size-byte-requires c κs = search needs
 add-part : tie.Need-add-part
 add-part c = search needs
 
+-- training and sync are copied: what came before, and what the lemmas say of the part as it then is
+module _ (c : tie.After-copy2) where
+  abbrev first : tie.After-copy
+  first = c .before .before .before .before .before
+
+  abbrev trained : tie.After-training
+  trained = first .before .before .before .before
+
+  abbrev start : tie.Start
+  start = trained .before .before
+
+  abbrev s : Satellite
+  s = start .args .satellite
+
+  abbrev n : ℕ
+  n = trained .training .result
+
+  abbrev part : List ℕ
+  part = now (start .args .part)
+
+  abbrev copied : List ℕ
+  copied = over n (first .copy .last .1 .0) (c .copy2 .last .1 .0)
+
+  has-room : sizeByteOf s ≡ true → n + 2 < length copied
+  has-room =
+      room-for-size s n (trained .training .ensures) part (first .copy .last .1 .0) (c .copy2 .last .1 .0)
+      (first .copy .ensures .1) (c .copy2 .ensures .1) (start .pre)
+
+  kept : length copied ≡ length part
+  kept =
+      length-joined s n (trained .training .ensures) part (first .copy .last .1 .0) (c .copy2 .last .1 .0)
+      (first .copy .ensures .1) (c .copy2 .ensures .1) (start .pre)
+
+  with-size : (size : ℕ) → sizeByteOf s ≡ true → set copied (n + 2) size ≡ ahead s size
+  with-size size =
+      sized s n (trained .training .ensures) part (first .copy .last .1 .0) (c .copy2 .last .1 .0)
+      (first .copy .ensures .1) (c .copy2 .ensures .1) size (start .pre)
+
+  with-none : (size : ℕ) → sizeByteOf s ≡ false → copied ≡ ahead s size
+  with-none size =
+      whole s n (trained .training .ensures) part (first .copy .last .1 .0) (c .copy2 .last .1 .0)
+      (first .copy .ensures .1) (c .copy2 .ensures .1) size (start .pre)
+
 slice-write-part : tie.Need-slice-write-part
-slice-write-part c =
-    let a = c .before .before .before .before .before .before .before .before .before .before .before .before .before .before .before .args in
-    let t = c .before .before .before .before .before .before .before .before .before .before .before .before .before .training in
-    room-for-size (a .satellite) (t .result) (t .ensures) (now (a .part)) (c .before .before .before .before .before .before .before .before .before .copy .last .1 .0) (c .before .before .before .before .copy2 .last .1 .0)
-    (c .before .before .before .before .before .before .before .before .before .copy .ensures .1) (c .before .before .before .before .copy2 .ensures .1) (c .before .before .before .before .before .before .before .before .before .before .before .before .before .before .before .pre) (sym (c .before .has-size-byte .ensures) ∙ c .if1 .taken)
+slice-write-part c = has-room (c .before .before .before .before) (sym (c .before .has-size-byte .ensures) ∙ c .if1 .taken)
 
 same-length : tie.Need-same-length
 same-length c =
-    let a = c .before .before .before .before .before .before .before .before .before .before .before .before .before .before .before .args in
-    let t = c .before .before .before .before .before .before .before .before .before .before .before .before .before .training in
-    length-set (take (t .result) (c .before .before .before .before .before .before .before .before .before .copy .last .1 .0) ++ (c .before .before .before .before .copy2 .last .1 .0 ++ drop (t .result + 2 - t .result) (drop (t .result) (c .before .before .before .before .before .before .before .before .before .copy .last .1 .0)))) (t .result + 2) (a .size)
-    ∙ length-joined (a .satellite) (t .result) (t .ensures) (now (a .part)) (c .before .before .before .before .before .before .before .before .before .copy .last .1 .0) (c .before .before .before .before .copy2 .last .1 .0)
-    (c .before .before .before .before .before .before .before .before .before .copy .ensures .1) (c .before .before .before .before .copy2 .ensures .1) (c .before .before .before .before .before .before .before .before .before .before .before .before .before .before .before .pre)
+    let at = c .before .before .before .before in
+    length-set (copied at) (n at + 2) (start at .args .size) ∙ kept at
 
 returns : tie.Need-returns
 returns c =
-    let a = c .before .before .before .before .before .before .before .before .before .before .before .before .before .before .before .args in
-    let t = c .before .before .before .before .before .before .before .before .before .before .before .before .before .training in
-    sized (a .satellite) (t .result) (t .ensures) (now (a .part)) (c .before .before .before .before .before .before .before .before .before .copy .last .1 .0) (c .before .before .before .before .copy2 .last .1 .0)
-    (c .before .before .before .before .before .before .before .before .before .copy .ensures .1) (c .before .before .before .before .copy2 .ensures .1) (a .size) (c .before .before .before .before .before .before .before .before .before .before .before .before .before .before .before .pre) (sym (c .before .has-size-byte .ensures) ∙ c .if1 .taken)
+    let at = c .before .before .before .before in
+    with-size at (start at .args .size) (sym (c .before .has-size-byte .ensures) ∙ c .if1 .taken)
 
 same-length-2 : tie.Need-same-length-2
-same-length-2 c = search needs
+same-length-2 c = kept (c .before .before .before .before)
 
 returns-2 : tie.Need-returns-2
 returns-2 c =
-    let a = c .before .before .before .before .before .before .before .before .before .before .before .before .before .before .before .args in
-    let t = c .before .before .before .before .before .before .before .before .before .before .before .before .before .training in
-    whole (a .satellite) (t .result) (t .ensures) (now (a .part)) (c .before .before .before .before .before .before .before .before .before .copy .last .1 .0) (c .before .before .before .before .copy2 .last .1 .0)
-    (c .before .before .before .before .before .before .before .before .before .copy .ensures .1) (c .before .before .before .before .copy2 .ensures .1) (a .size) (c .before .before .before .before .before .before .before .before .before .before .before .before .before .before .before .pre) (sym (c .before .has-size-byte .ensures) ∙ c .if1 .left)
+    let at = c .before .before .before .before in
+    with-none at (start at .args .size) (sym (c .before .has-size-byte .ensures) ∙ c .if1 .left)
 
 pub write-spec : {M : Type 1} → statement M
 write-spec =

@@ -11,10 +11,6 @@ use denote.Ref.{now}
 use borrow.Author.Needs.{needs}
 use Rattle.frames.proofs.reader.tell_from.Statement.{statement}
 use Rattle.frames.proofs.reader.tell_from.Tie as tie
-use Rattle.frames.proofs.reader.tell_from.Reads as reads
-use Rattle.frames.proofs.reader.tell_from.Lts as lts
-use Rattle.bodies.proofs.read.Reads as read-reads
-use Rattle.frames.proofs.clear.unscrambled.Reads as unscrambled-reads
 
 sub-end : tie.Need-sub-end
 sub-end c = search needs
@@ -51,13 +47,16 @@ same-length-2 c = search needs
 
 returns : tie.Need-returns
 returns c =
-    let a = c .before .before .before .before .before .before .before .before .before .before .before .before .before .before .args in
-    let pre = c .before .before .before .before .before .before .before .before .before .before .before .before .before .before .pre in
-    let told = c .before .before .before .before .before .before .before .before .before .unscrambled in (
-      sym (c .before .before .before .before .before .before .if1 .taken) ∙ told .ensures .0,
-      c .before .before .read .ensures
-          ∙ ap (λ (l : List ℕ). filled (valuesFrom 0 (widthsIn (a .layout)) l) (now (a .room)))
-          (told-body restarted (now (a .sent)) (told .last .1 .0) (drop (length (now (a .sent)) - 0) (now (a .copy))) (pre .0) (told .ensures .1)),
+    let read = c .before .before in
+    let taken = read .before .before .before .before in
+    let told = taken .before .before .before in
+    let start = told .before .before .before .before .before in
+    let sent = now (start .args .sent) in
+    let behind = drop (length sent - 0) (now (start .args .copy)) in (
+      sym (taken .if1 .taken) ∙ told .unscrambled .ensures .0,
+      read .read .ensures
+          ∙ ap (λ (l : List ℕ). filled (valuesFrom 0 (widthsIn (start .args .layout)) l) (now (start .args .room)))
+          (told-body restarted sent (told .unscrambled .last .1 .0) behind (start .pre .0) (told .unscrambled .ensures .1)),
     )
 
 same-length-3 : tie.Need-same-length-3

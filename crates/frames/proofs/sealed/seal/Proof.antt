@@ -1,8 +1,9 @@
 -- `frames::sealed::seal` meets its contract.
 -- Assumes nothing.
-use Prim.Native.Nat.{_+_, _-_, _/_, _<_}
-use mathlib.Core.Path.{ap, _∙_}
-use lib.ListN.{length}
+use Prim.Native.Nat.{ℕ, _+_, _-_, _/_, _<_}
+use mathlib.Core.Path.{_≡_, ap, _∙_}
+use mathlib.Core.List.{List}
+use lib.ListN.{length, getD}
 use lib.Seq.{lt-length-set}
 use mir.Val.{Fits}
 use mir.Syntax.{w16}
@@ -10,15 +11,11 @@ use denote.Ref.{now}
 use Rattle.scrambler.specs.declared.Register.{Register}
 use Rattle.scrambler.specs.declared.Direction.the-variants.{Scramble}
 use Rattle.scrambler.specs.Scrambler.{restarted, partAnswer}
-use Rattle.frames.proofs.Parts.{lent, put, sealed-is}
+use Rattle.frames.specs.Frames.{bodyIn}
+use Rattle.frames.proofs.Parts.{lent, put, sealed-is, length-sealed, length-body}
 use borrow.Author.Needs.{needs}
 use Rattle.frames.proofs.sealed.seal.Statement.{statement}
 use Rattle.frames.proofs.sealed.seal.Tie as tie
-use Rattle.frames.proofs.sealed.seal.Reads as reads
-use Rattle.frames.proofs.sealed.seal.Lts as lts
-use Rattle.checksum.proofs.of.Reads as of-reads
-use Rattle.scrambler.proofs.Register.restarted.Reads as restarted-reads
-use Rattle.scrambler.proofs.Register.scramble.Reads as scramble-reads
 
 sub-end : tie.Need-sub-end
 sub-end c = search needs
@@ -62,24 +59,44 @@ cast-part-2 c = search needs
 add-part : tie.Need-add-part
 add-part c = search needs
 
+-- the body is scrambled: the part as it was given, and what was made of it
+module _ (c : tie.After-scramble) where
+  abbrev summed : tie.After-of
+  summed = c .before .before .before
+
+  abbrev start : tie.Start
+  start = summed .before .before .before .before
+
+  abbrev part : List ℕ
+  part = now (start .args .part)
+
+  abbrev body : List ℕ
+  body = c .scramble .last .1 .0
+
+  body-is : body ≡ partAnswer Scramble restarted (lent part)
+  body-is =
+      c .scramble .ensures .bytes
+      ∙ ap (λ (r : Register). partAnswer Scramble r (lent part)) (c .before .before .restarted .ensures)
+
 slice-write-part-2 : tie.Need-slice-write-part-2
 slice-write-part-2 c =
-    let a = c .before .before .before .before .before .before .before .before .before .args in
-    let ys = c .before .before .scramble .last .1 .0 in
-    let inside : length (now (a .part)) - 2 + 1 < length (put (now (a .part)) ys) = search needs in
-    lt-length-set (put (now (a .part)) ys) (length (now (a .part)) - 2) (c .before .before .before .before .before .of .result / 256) inside
-
-same-length : tie.Need-same-length
-same-length c = search needs
+    let at = c .before .before in
+    let inside : length (part at) - 2 + 1 < length (put (part at) (body at)) = search needs in
+    lt-length-set (put (part at) (body at)) (length (part at) - 2) (summed at .of .result / 256) inside
 
 returns : tie.Need-returns
 returns c =
-    let a = c .before .before .before .before .before .before .before .before .before .args in
-    let sum = c .before .before .before .before .before .of in
+    let at = c .before .before in
+    let sum = summed at .of in
     let small : Fits w16 (sum .result) = search needs in
-    sealed-is restarted (now (a .part)) (c .before .before .scramble .last .1 .0) (sum .result) (c .before .before .before .before .before .before .before .before .before .pre) (small .fits) (sum .ensures)
-    (c .before .before .scramble .ensures .bytes
-    ∙ ap (λ (r : Register). partAnswer Scramble r (lent (now (a .part)))) (c .before .before .before .before .restarted .ensures))
+    sealed-is restarted (part at) (body at) (sum .result) (start at .pre) (small .fits) (sum .ensures) (body-is at)
+
+same-length : tie.Need-same-length
+same-length c =
+    let at = c .before .before in
+    ap length (returns c)
+    ∙ length-sealed restarted (getD (part at) 0 0) (bodyIn (part at))
+    ∙ length-body (part at) (start at .pre)
 
 pub seal-spec : {M : Type 1} → statement M
 seal-spec =

@@ -2,7 +2,8 @@
 -- Assumes nothing.
 use Prim.Native.Nat.{ℕ, _+_}
 use mathlib.Core.Path.{_≡_, _∙_, ap, ap₂}
-use lib.ListN.{length, length-set}
+use mathlib.Core.List.{List}
+use lib.ListN.{length, set, length-set}
 use denote.Ref.{now}
 use Rattle.scrambler.specs.Scrambler.{restarted}
 use Rattle.bodies.specs.Bodies.{laidFrom, widthsIn}
@@ -12,10 +13,6 @@ use Rattle.frames.proofs.Parts.{lent, put, lent-body, length-body, leng
 use borrow.Author.Needs.{needs}
 use Rattle.frames.proofs.writer.send.Statement.{statement}
 use Rattle.frames.proofs.writer.send.Tie as tie
-use Rattle.frames.proofs.writer.send.Reads as reads
-use Rattle.frames.proofs.writer.send.Lts as lts
-use Rattle.bodies.proofs.write.Reads as write-reads
-use Rattle.frames.proofs.sealed.seal.Reads as seal-reads
 
 sub-end : tie.Need-sub-end
 sub-end c = search needs
@@ -35,37 +32,47 @@ write-requires c κs = search needs
 slice-write-part : tie.Need-slice-write-part
 slice-write-part c = search needs
 
--- the body keeps its length
-as-long : (c : tie.After-write)
-    → let a = c .before .before .before .before .args in
-    length (c .write .last .1 .1 .0) ≡ length (lent (now (a .part)))
-as-long c =
-    let a = c .before .before .before .before .args in
-    ap length (c .write .ensures) ∙ length-laid 0 (widthsIn (a .layout)) (now (a .values)) (lent (now (a .part)))
+-- what the call is given, and the body that was written
+module _ (c : tie.After-write) where
+  abbrev start : tie.Start
+  start = c .before .before .before .before
+
+  abbrev part : List ℕ
+  part = now (start .args .part)
+
+  abbrev laid : List ℕ → List ℕ
+  laid = laidFrom 0 (widthsIn (start .args .layout)) (now (start .args .values))
+
+  abbrev body : List ℕ
+  body = c .write .last .1 .1 .0
+
+  as-long : length body ≡ length (lent part)
+  as-long = ap length (c .write .ensures) ∙ length-laid 0 (widthsIn (start .args .layout)) (now (start .args .values)) (lent part)
+
+  -- it lies in the part, behind another first byte
+  body-is : bodyIn (set (put part body) 0 (start .args .typed)) ≡ laid (bodyIn part)
+  body-is =
+      body-put part body (start .args .typed) (start .pre) as-long ∙ c .write .ensures ∙ ap laid (lent-body part (start .pre))
 
 seal-requires : tie.Need-seal-requires
 seal-requires c κs =
-    let a = c .before .before .before .before .before .before .before .args in
-    let ys = c .before .before .before .write .last .1 .1 .0 in
-    rw (length-set (put (now (a .part)) ys) 0 (a .typed), length-put (now (a .part)) ys (c .before .before .before .before .before .before .before .pre) (as-long (c .before .before .before))) (c .before .before .before .before .before .before .before .pre)
+    let at = c .before .before .before in
+    rw (length-set (put (part at) (body at)) 0 (start at .args .typed), length-put (part at) (body at) (start at .pre) (as-long at))
+    (start at .pre)
 
 returns : tie.Need-returns
 returns c =
-    let a = c .before .before .before .before .before .before .before .before .before .before .args in
-    let ys = c .before .before .before .before .before .before .write .last .1 .1 .0 in
-    let pre = c .before .before .before .before .before .before .before .before .before .before .pre in
-    let kept = as-long (c .before .before .before .before .before .before) in
+    let at = c .before .before .before .before .before .before in
     c .before .before .seal .ensures
-    ∙ ap₂ (sealed restarted) (first-put (now (a .part)) ys (a .typed) pre) (body-put (now (a .part)) ys (a .typed) pre kept ∙ c .before .before .before .before .before .before .write .ensures
-    ∙ ap (laidFrom 0 (widthsIn (a .layout)) (now (a .values))) (lent-body (now (a .part)) pre))
+    ∙ ap₂ (sealed restarted) (first-put (part at) (body at) (start at .args .typed) (start at .pre)) (body-is at)
 
 same-length : tie.Need-same-length
 same-length c =
-    let a = c .before .before .before .before .before .before .before .before .before .before .args in
+    let at = c .before .before .before .before .before .before in
     ap length (returns c)
-    ∙ length-sealed restarted (a .typed) (laidFrom 0 (widthsIn (a .layout)) (now (a .values)) (bodyIn (now (a .part))))
-    ∙ ap (λ (n : ℕ). n + 3) (length-laid 0 (widthsIn (a .layout)) (now (a .values)) (bodyIn (now (a .part))))
-    ∙ length-body (now (a .part)) (c .before .before .before .before .before .before .before .before .before .before .pre)
+    ∙ length-sealed restarted (start at .args .typed) (laid at (bodyIn (part at)))
+    ∙ ap (λ (n : ℕ). n + 3) (length-laid 0 (widthsIn (start at .args .layout)) (now (start at .args .values)) (bodyIn (part at)))
+    ∙ length-body (part at) (start at .pre)
 
 pub send-spec : {M : Type 1} → statement M
 send-spec =

@@ -1,12 +1,12 @@
 -- `frames::writer::write` meets its contract.
 -- Assumes nothing.
 use native.Mathlib.Omega.{arith}
-use mathlib.Core.Path.{_≡_, sym, _∙_, ap, ap₂}
+use mathlib.Core.Path.{_≡_, sym, _∙_, ap}
 use borrow.Author.Tests.{not-true, not-false}
 use Prim.Native.Nat.{ℕ, _-_, _≤_, _<_}
 use mathlib.Core.Bool.{true}
-use mathlib.Core.List.{List, _++_}
-use lib.ListN.{length, drop}
+use mathlib.Core.List.{List}
+use lib.ListN.{length}
 use lib.Seq.{length-take-le}
 use denote.Ref.{now}
 use Rattle.layouts.specs.Layouts.{carries, entryOf}
@@ -14,17 +14,37 @@ use Rattle.bodies.specs.Bodies.{fitting, widthsIn}
 use Rattle.bodies.proofs.Laws.{widths-in}
 use Rattle.frames.specs.Frames.{frameLength}
 use Rattle.scrambler.specs.Scrambler.{restarted}
+use Rattle.satellites.specs.declared.Satellite.{Satellite}
 use Rattle.layouts.specs.declared.Layout.{Layout}
-use Rattle.frames.proofs.Writings.{refused-with, accepted-with, told-length, fails-5, fails-10, fails-11, fails-12, none-fails}
+use Rattle.frames.proofs.Writings.{wroteAs, refuses-5, refuses-10, refuses-11, refuses-12, accepts, told-length}
 use borrow.Author.Needs.{needs}
 use Rattle.frames.proofs.writer.write.Statement.{statement}
 use Rattle.frames.proofs.writer.write.Tie as tie
-use Rattle.frames.proofs.writer.write.Reads as reads
-use Rattle.frames.proofs.writer.write.Lts as lts
-use Rattle.bodies.proofs.fitting.Reads as fitting-reads
-use Rattle.frames.proofs.writer.frame.Reads as frame-reads
-use Rattle.frames.proofs.writer.refused.Reads as refused-reads
-use Rattle.layouts.proofs.of.Reads as of-reads
+
+-- what the call is given
+module _ (c : tie.After-of) where
+  abbrev s : Satellite
+  s = c .before .before .before .args .satellite
+
+  abbrev ty : ℕ
+  ty = c .before .before .before .args .ty
+
+  abbrev values : List ℕ
+  values = now (c .before .before .before .args .values)
+
+  abbrev output : List ℕ
+  output = now (c .before .before .before .args .output)
+
+  -- the fields of its type
+  abbrev widths : List ℕ
+  widths = entryOf s ty .widths
+
+-- the points that the later ones come by: the type was carried, the values were as many as its fields
+abbrev by-type : tie.Else2 → tie.Else1
+by-type c = c .before .before
+
+abbrev by-count : tie.Else3 → tie.Else2
+by-count c = c .before .before .before
 
 of-requires : tie.Need-of-requires
 of-requires c κs = search needs
@@ -34,71 +54,77 @@ refused-requires c κs = search needs
 
 returns : tie.Need-returns
 returns c =
-    let a = c .before .before .before .before .before .args in
-    let layout = c .before .before .of in
-    let other = sym (ap (λ (l : Layout). l .carried) (layout .ensures)) ∙ not-true (layout .result .carried) (c .before .if1 .taken) in
-    let told = refused-with restarted (a .satellite) (a .ty) (now (a .values)) (now (a .output)) 5 (fails-5 restarted (a .satellite) (a .ty) (now (a .values)) (now (a .output)) other) (λ e. omega (arith, e)) in
+    let at = c .before .before in
+    let other = sym (ap (λ (l : Layout). l .carried) (at .of .ensures)) ∙ not-true (at .of .result .carried) (c .before .if1 .taken) in
+    let told = refuses-5 restarted (s at) (ty at) (values at) (output at) other in
     (c .refused .ensures ∙ told .0, told .1)
 
-is-carried : (c : tie.Else1) → let a = c .before .before .before .before .args in carries (a .satellite) (a .ty) ≡ true
+is-carried : (c : tie.Else1) → carries (s (c .before)) (ty (c .before)) ≡ true
 is-carried c =
     let layout = c .before .of in
     sym (ap (λ (l : Layout). l .carried) (layout .ensures)) ∙ not-false (layout .result .carried) (c .if1 .left)
+
+-- the field count, as it was told
+counted : (c : tie.After-of) → c .of .result .fields ≡ length (widths c)
+counted c = ap (λ (l : Layout). l .fields) (c .of .ensures)
 
 refused-requires-2 : tie.Need-refused-requires-2
 refused-requires-2 c κs = search needs
 
 returns-2 : tie.Need-returns-2
 returns-2 c =
-    let a = c .before .before .before .before .before .before .before .args in
-    let layout = c .before .before .before .before .of in
-    let told = refused-with restarted (a .satellite) (a .ty) (now (a .values)) (now (a .output)) 10 (fails-10 restarted (a .satellite) (a .ty) (now (a .values)) (now (a .output)) (is-carried (c .before .before .before))
-    (λ e. c .before .if2 .taken (e ∙ sym (ap (λ (l : Layout). l .fields) (layout .ensures))))) (λ e. omega (arith, e)) in
+    let carried = c .before .before .before in
+    let at = carried .before in
+    let told = refuses-10 restarted (s at) (ty at) (values at) (output at) (is-carried carried)
+    (λ e. c .before .if2 .taken (e ∙ sym (counted at))) in
     (c .refused2 .ensures ∙ told .0, told .1)
 
-as-many : (c : tie.Else2) → let a = c .before .before .before .before .before .before .args in length (now (a .values)) ≡ length (entryOf (a .satellite) (a .ty) .widths)
-as-many c = c .if2 .left ∙ ap (λ (l : Layout). l .fields) (c .before .before .before .of .ensures)
+as-many : (c : tie.Else2) → let at = by-type c .before in length (values at) ≡ length (widths at)
+as-many c = c .if2 .left ∙ counted (by-type c .before)
 
 fitting-requires : tie.Need-fitting-requires
 fitting-requires c κs = search needs
 
-fits : (c : tie.After-fitting)
-    → let a = c .before .before .before .before .before .before .before .args in
-    c .fitting .result ≡ fitting (entryOf (a .satellite) (a .ty) .widths) (now (a .values))
+fits : (c : tie.After-fitting) → let at = by-type (c .before) .before in c .fitting .result ≡ fitting (widths at) (values at)
 fits c =
-    let a = c .before .before .before .before .before .before .before .args in
+    let at = by-type (c .before) .before in
     c .fitting .ensures
-    ∙ ap (λ (ws : List ℕ). fitting ws (now (a .values))) (ap widthsIn (c .before .before .before .before .of .ensures) ∙ widths-in (a .satellite) (a .ty))
+    ∙ ap (λ (ws : List ℕ). fitting ws (values at)) (ap widthsIn (at .of .ensures) ∙ widths-in (s at) (ty at))
 
 returns-3 : tie.Need-returns-3
 returns-3 c =
-    let a = c .before .before .before .before .before .before .before .before .before .args in
-    let layout = c .before .before .before .before .before .before .of in
+    let many = c .before .before .before in
+    let carried = by-type many in
+    let at = carried .before in
     let lowest = fits (c .before .before) in
-    let told = refused-with restarted (a .satellite) (a .ty) (now (a .values)) (now (a .output)) 11 (fails-11 restarted (a .satellite) (a .ty) (now (a .values)) (now (a .output)) (is-carried (c .before .before .before .before .before)) (as-many (c .before .before .before))
-    (λ e. c .if3 .taken (lowest ∙ e ∙ sym (ap (λ (l : Layout). l .fields) (layout .ensures))))) (λ e. omega (arith, e)) in
+    let told = refuses-11 restarted (s at) (ty at) (values at) (output at) (is-carried carried) (as-many many)
+    (λ e. c .if3 .taken (lowest ∙ e ∙ sym (counted at))) in
     (ap (λ (n : ℕ). record { refusal = 11; answer = n }) lowest ∙ told .0, told .1)
 
-all-fit : (c : tie.Else3)
-    → let a = c .before .before .before .before .before .before .before .before .before .args in
-    fitting (entryOf (a .satellite) (a .ty) .widths) (now (a .values)) ≡ length (entryOf (a .satellite) (a .ty) .widths)
-all-fit c = sym (fits (c .before .before)) ∙ c .if3 .left ∙ ap (λ (l : Layout). l .fields) (c .before .before .before .before .before .before .of .ensures)
+all-fit : (c : tie.Else3) → let at = by-type (by-count c) .before in fitting (widths at) (values at) ≡ length (widths at)
+all-fit c = sym (fits (c .before .before)) ∙ c .if3 .left ∙ counted (by-type (by-count c) .before)
 
 -- the frame's length
-its-length : (c : tie.Else3) → let a = c .before .before .before .before .before .before .before .before .before .args in c .before .before .before .before .before .before .of .result .frame ≡ frameLength (a .satellite) (a .ty)
+its-length : (c : tie.Else3)
+    → let at = by-type (by-count c) .before in
+    at .of .result .frame ≡ frameLength (s at) (ty at)
 its-length c =
-    let a = c .before .before .before .before .before .before .before .before .before .args in
-    ap (λ (l : Layout). l .frame) (c .before .before .before .before .before .before .of .ensures) ∙ told-length restarted (a .satellite) (a .ty) (now (a .values)) (now (a .output)) (is-carried (c .before .before .before .before .before))
+    let carried = by-type (by-count c) in
+    let at = carried .before in
+    ap (λ (l : Layout). l .frame) (at .of .ensures)
+    ∙ told-length restarted (s at) (ty at) (values at) (output at) (is-carried carried)
 
 refused-requires-3 : tie.Need-refused-requires-3
 refused-requires-3 c κs = search needs
 
 returns-4 : tie.Need-returns-4
 returns-4 c =
-    let a = c .before .before .before .before .before .before .before .before .before .before .before .args in
-    let at = c .before .before in
-    let short : length (now (a .output)) < frameLength (a .satellite) (a .ty) = omega (arith, its-length at) in
-    let told = refused-with restarted (a .satellite) (a .ty) (now (a .values)) (now (a .output)) 12 (fails-12 restarted (a .satellite) (a .ty) (now (a .values)) (now (a .output)) (is-carried (at .before .before .before .before .before)) (as-many (at .before .before .before)) (all-fit at) short) (λ e. omega (arith, e)) in
+    let fit = c .before .before in
+    let many = by-count fit in
+    let carried = by-type many in
+    let at = carried .before in
+    let short : length (output at) < frameLength (s at) (ty at) = omega (arith, its-length fit) in
+    let told = refuses-12 restarted (s at) (ty at) (values at) (output at) (is-carried carried) (as-many many) (all-fit fit) short in
     (c .refused3 .ensures ∙ told .0, told .1)
 
 sub-frame : tie.Need-sub-frame
@@ -110,26 +136,34 @@ part-frame-start c = search needs
 part-frame-end : tie.Need-part-frame-end
 part-frame-end c = search needs
 
+-- the part that is lent, from 0 on, is as long
+lent-length : (c : tie.Else3)
+    → let at = by-type (by-count c) .before in
+    at .of .result .frame - 0 ≡ frameLength (s at) (ty at)
+lent-length c = omega (arith, its-length c)
+
 frame-requires : tie.Need-frame-requires
 frame-requires c κs =
-    let at = c .before .before in
-    let all : c .before .before .before .before .before .before .before .before .of .result .frame - 0 ≡ c .before .before .before .before .before .before .before .before .of .result .frame = omega arith in
-    let whole : c .before .before .before .before .before .before .before .before .of .result .frame - 0 ≤ length (now (c .before .before .before .before .before .before .before .before .before .before .before .args .output)) = omega arith in
-    (is-carried (at .before .before .before .before .before), (c .before .before .before .before .before .before .before .before .of .ensures, length-take-le (c .before .before .before .before .before .before .before .before .of .result .frame - 0) (now (c .before .before .before .before .before .before .before .before .before .before .before .args .output)) whole ∙ all ∙ its-length at))
+    let fit = c .before .before in
+    let carried = by-type (by-count fit) in
+    let at = carried .before in
+    let whole : at .of .result .frame - 0 ≤ length (output at) = omega arith in (
+      is-carried carried,
+      (at .of .ensures, length-take-le (at .of .result .frame - 0) (output at) whole ∙ lent-length fit),
+    )
 
 same-length : tie.Need-same-length
 same-length c = search needs
 
 returns-5 : tie.Need-returns-5
 returns-5 c =
-    let a = c .before .before .before .before .before .before .before .before .before .before .before .before .before .before .args in
-    let at = c .before .before .before .before .before in
-    let all : c .before .before .before .before .before .before .before .before .before .before .before .of .result .frame - 0 ≡ c .before .before .before .before .before .before .before .before .before .before .before .of .result .frame = omega arith in
-    let enough : frameLength (a .satellite) (a .ty) ≤ length (now (a .output)) = omega (arith, its-length at) in
-    let told = accepted-with restarted (a .satellite) (a .ty) (now (a .values)) (now (a .output)) (none-fails restarted (a .satellite) (a .ty) (now (a .values)) (now (a .output)) (is-carried (at .before .before .before .before .before)) (as-many (at .before .before .before)) (all-fit at) enough) in (
-      ap (λ (n : ℕ). record { refusal = 0; answer = n }) (its-length at) ∙ told .0,
-      ap₂ (λ (l : List ℕ) (n : ℕ). l ++ drop n (now (a .output))) (c .before .before .frame .ensures) (all ∙ its-length at) ∙ told .1,
-    )
+    let fit = c .before .before .before .before .before in
+    let many = by-count fit in
+    let carried = by-type many in
+    let at = carried .before in
+    let enough : frameLength (s at) (ty at) ≤ length (output at) = omega (arith, its-length fit) in
+    accepts restarted (s at) (ty at) (values at) (output at) (is-carried carried) (as-many many) (all-fit fit) enough
+    (ap wroteAs (its-length fit)) (lent-length fit) (c .before .before .frame .ensures)
 
 pub write-spec : {M : Type 1} → statement M
 write-spec =
