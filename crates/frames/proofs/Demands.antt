@@ -38,7 +38,6 @@ use Rattle.frames.specs.Reading.{frontTests, readingTests, reading, room
 use Rattle.frames.specs.Writing.{writingTests, writing, outputAfter}
 use Rattle.frames.proofs.Tests.{first-fails, fails-first, all-hold, hold-all}
 use Rattle.frames.proofs.Fronts as fronts
-use Rattle.frames.proofs.Readings as readings
 use Rattle.frames.proofs.Wholes.{its-length, its-training, its-sync, its-type-byte, its-size-byte, its-checksum}
 use Rattle.frames.proofs.Answers as answers
 use Rattle.frames.proofs.Exact as exact

@@ -1,6 +1,6 @@
 -- Tests 2 to 6: what a front is refused with, and what an accepted front tells.
 -- Assumes nothing.
-use Prim.Native.Nat.{ℕ, _-_}
+use Prim.Native.Nat.{ℕ}
 use Prim.{⊥}
 use mathlib.Core.Path.{_≡_, _∙_, ap, ap₂}
 use mathlib.Core.Bool.{Bool, true, false, not, _||_}

@@ -1,7 +1,7 @@
 -- What reading answers and leaves, from the tests that hold and the first that fails.
 -- Assumes nothing.
 use Prim.{⊥}
-use Prim.Native.Nat.{ℕ, _+_, _-_, _*_, _≤_, _<_}
+use Prim.Native.Nat.{ℕ, _-_, _*_, _≤_, _<_}
 use native.Mathlib.Omega.{arith}
 use mathlib.Core.Path.{_≡_, refl, sym, _∙_, ap}
 use mathlib.Core.Bool.{true, false}

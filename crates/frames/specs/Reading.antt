@@ -1,5 +1,5 @@
 -- Reading (01, "What is refused, and in which order"; FORMAT 7 and 8): the tests in their order, the answer, and the room.
-use Prim.Native.Nat.{ℕ, _-_}
+use Prim.Native.Nat.{ℕ}
 use mathlib.Core.Bool.{Bool, true, false, not, _&&_, _||_, cond}
 use mathlib.Core.List.{List, [], _∷_, _++_}
 use lib.ListN.{length, take, drop}
