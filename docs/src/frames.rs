@@ -1,8 +1,12 @@
-//! Whole frames, read and written, from 01, "From antenna order to bytes" and
-//! "What is refused, and in which order".
+//! Whole frames, read, written and edited, from 01, "From antenna order to
+//! bytes" and "What is refused, and in which order".
 //!
 //! It was written from 01 and from docs/FORMAT.md, with docs/DECISIONS.md,
 //! docs/EXAMPLES.md and README.md at hand, without sight of the crates' code.
+//! Editing was added later by another hand, from 01, docs/FORMAT.md and a list
+//! of points that can be read two ways, with docs/DECISIONS.md, a part of
+//! docs/EXAMPLES.md and the questions and answers of `vectors` at hand, again
+//! without sight of the crates' code.
 //!
 //! A call makes its tests one after the other in the order of the paper and
 //! stops at the first that fails. It works on copies, and what was lent to it
@@ -26,7 +30,7 @@ const SCRAMBLER: Setting = Setting {
 
 // The numbers of the paper.
 
-const ACCEPTED: u32 = 0;
+pub const ACCEPTED: u32 = 0;
 /// Satellite number above 6.
 const NO_SATELLITE: u32 = 1;
 /// Fewer bytes than training, sync, size byte if any, and type byte.
@@ -51,6 +55,11 @@ const OTHER_COUNT: u32 = 10;
 const TOO_GREAT: u32 = 11;
 /// Output shorter than the frame.
 const LITTLE_OUTPUT: u32 = 12;
+/// No field of that number.
+const NO_FIELD: u32 = 13;
+
+/// A refusal of a call that makes a frame: its number and its answer.
+type Refusal = (u32, u32);
 
 // Reading.
 
@@ -71,8 +80,8 @@ fn values_of(satellite: u32, frame: &[u8], places: usize) -> Result<(u32, Vec<u3
     if places < layout.widths.len() {
         return Err(LITTLE_ROOM);
     }
-    let body = clear_body(&layout, frame)?;
-    Ok((layout.row.kind as u32, untiled(&layout.widths, &body)))
+    let values = clear_values(&layout, frame)?;
+    Ok((layout.row.kind as u32, values))
 }
 
 /// Tests 1 to 7: all that can be told without the body.
@@ -98,6 +107,12 @@ fn recognised(satellite: u32, frame: &[u8]) -> Result<Layout, u32> {
     Ok(layout)
 }
 
+/// Test 9, then the values of all fields.
+fn clear_values(layout: &Layout, frame: &[u8]) -> Result<Vec<u32>, u32> {
+    let body = clear_body(layout, frame)?;
+    Ok(untiled(&layout.widths, &body))
+}
+
 /// Test 9: the body unscrambled, if the last two bytes are the checksum of
 /// type, address and this body.
 fn clear_body(layout: &Layout, frame: &[u8]) -> Result<Vec<bool>, u32> {
@@ -117,24 +132,13 @@ fn clear_body(layout: &Layout, frame: &[u8]) -> Result<Vec<bool>, u32> {
 /// Number and length. That many bytes of the output are filled. A refusal
 /// answers 0 for the length, but 11 the lowest field that does not fit.
 pub fn write(satellite: u32, kind: u32, values: &[u32], output: &mut [u8]) -> (u32, u32) {
-    match frame_of(satellite, kind, values, output.len()) {
-        Err(refusal) => refusal,
-        Ok(frame) => {
-            output[..frame.len()].copy_from_slice(&frame);
-            (ACCEPTED, frame.len() as u32)
-        }
-    }
+    filled(frame_of(satellite, kind, values, output.len()), output)
 }
 
 /// Tests 1, 5, 10, 11 and 12, then the frame.
-fn frame_of(
-    satellite: u32,
-    kind: u32,
-    values: &[u32],
-    output: usize,
-) -> Result<Vec<u8>, (u32, u32)> {
-    named(satellite).map_err(|number| (number, 0))?;
-    let layout = carried(satellite, kind).map_err(|number| (number, 0))?;
+fn frame_of(satellite: u32, kind: u32, values: &[u32], output: usize) -> Result<Vec<u8>, Refusal> {
+    named(satellite).map_err(answering_0)?;
+    let layout = carried(satellite, kind).map_err(answering_0)?;
     if values.len() != layout.widths.len() {
         return Err((OTHER_COUNT, 0));
     }
@@ -171,7 +175,48 @@ fn framed(layout: &Layout, body: &[bool]) -> Vec<u8> {
     frame
 }
 
-// What both go by.
+// Editing.
+
+/// Number and length. The edited frame replaces the old one and, being as
+/// long, fills the buffer. A refusal answers 0 for the length, but 11 the
+/// field's number.
+pub fn edit(satellite: u32, frame: &mut [u8], field: u32, value: u32) -> (u32, u32) {
+    filled(edited(satellite, frame, field, value), frame)
+}
+
+/// Tests 1 to 7, 9 and 13, then the frame written afresh with one value
+/// replaced. Writing makes test 11. Its other tests hold by then, and the
+/// other values fit, since they were read from such fields: the field that 11
+/// answers is the one that was named.
+fn edited(satellite: u32, frame: &[u8], field: u32, value: u32) -> Result<Vec<u8>, Refusal> {
+    let layout = recognised(satellite, frame).map_err(answering_0)?;
+    let mut values = clear_values(&layout, frame).map_err(answering_0)?;
+    match values.get_mut(field as usize) {
+        None => return Err((NO_FIELD, 0)),
+        Some(place) => *place = value,
+    }
+    frame_of(satellite, layout.row.kind as u32, &values, frame.len())
+}
+
+// What writing and editing answer.
+
+fn answering_0(number: u32) -> Refusal {
+    (number, 0)
+}
+
+/// A frame goes into the first bytes of what was lent, and its length is
+/// answered. A refusal is answered as it is, and nothing is touched.
+fn filled(made: Result<Vec<u8>, Refusal>, lent: &mut [u8]) -> (u32, u32) {
+    match made {
+        Err(refusal) => refusal,
+        Ok(frame) => {
+            lent[..frame.len()].copy_from_slice(&frame);
+            (ACCEPTED, frame.len() as u32)
+        }
+    }
+}
+
+// What all three go by.
 
 /// What a satellite and one of its types fix between them.
 struct Layout {

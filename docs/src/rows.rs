@@ -1,5 +1,5 @@
 //! The field tables of 01: which types a satellite sends, how wide their
-//! fields are, and how long that makes a frame. Both programs use it.
+//! fields are, and how long that makes a frame. All three programs use it.
 
 use crate::satellites::Satellite;
 

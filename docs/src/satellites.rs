@@ -1,5 +1,5 @@
 //! What is a satellite's own, from 01, "From antenna order to bytes". Each of
-//! the two programs uses a part of it.
+//! the three programs uses a part of it.
 #![allow(dead_code)]
 
 pub const SYNC_BYTES: usize = 2;

@@ -19,18 +19,20 @@
 //! satellite NUMBER                     what is its own, or none
 //! read SATELLITE ROOM FRAME            number, type, count, then the room
 //! write SATELLITE TYPE OUTPUT VALUES   number, answer, then the output
+//! edit SATELLITE FIELD VALUE FRAME     number, answer, then the frame
 //! ```
 //!
 //! All of it is hexadecimal, most significant digit first, in whole bytes;
 //! blanks between digits are ignored. NEAR, FAR and WIDTH take one byte, the
 //! START of a field, ROOM and OUTPUT two, the START of a scrambler, VALUE,
-//! NUMBER, SATELLITE, TYPE and each of VALUES four, and DATA and FRAME take
-//! what is left, which may be nothing.
+//! NUMBER, SATELLITE, TYPE, FIELD and each of VALUES four, and DATA and FRAME
+//! take what is left, which may be nothing.
 //!
 //! ROOM is how many places there are for values, at most 128, and OUTPUT how
 //! many bytes for a frame, at most 256. Before the call each place is EEEEEEEE
 //! and each byte EE; all of them are printed, four bytes a place, unless there
-//! are none. Number, type, count and answer take four bytes each.
+//! are none. Number, type, count and answer take four bytes each. After an
+//! edit the frame is printed as the call left it, unless it is empty.
 //!
 //! Empty lines and lines that begin with '#' are printed as they are. A line
 //! that is no question, or has more than 512 bytes, gets " = ?".
@@ -88,6 +90,7 @@ fn answer(line: &str) -> Option<String> {
         "satellite" => answer_satellite(&mut given),
         "read" => answer_read(&mut given),
         "write" => answer_write(&mut given),
+        "edit" => answer_edit(&mut given),
         _ => None,
     }
 }
@@ -167,8 +170,20 @@ fn answer_write(given: &mut Given) -> Option<String> {
     let values: Vec<u32> = given.rest().chunks(32).map(number_of_bits).collect();
     let mut output = vec![BYTE_BEFORE; bytes];
     let (number, answer) = frames::write(satellite, kind, &values, &mut output);
-    let output = digits_of_bits(&bits_of_bytes(&output));
-    Some(parts(&[number, answer], &output))
+    Some(parts(&[number, answer], &digits_of_bytes(&output)))
+}
+
+fn answer_edit(given: &mut Given) -> Option<String> {
+    let satellite = given.number(32)?;
+    let field = given.number(32)?;
+    let value = given.number(32)?;
+    let mut frame = bytes_of_bits(given.rest());
+    let (number, answer) = frames::edit(satellite, &mut frame, field, value);
+    Some(parts(&[number, answer], &digits_of_bytes(&frame)))
+}
+
+fn digits_of_bytes(bytes: &[u8]) -> String {
+    digits_of_bits(&bits_of_bytes(bytes))
 }
 
 /// Numbers and what was lent, blanks between, without what is empty.

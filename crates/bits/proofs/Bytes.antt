@@ -9,7 +9,7 @@ use native.Mathlib.Omega.{arith}
 use lib.ListN.{length, take, drop, length-append, length-take, length-drop, take-append-drop}
 use lib.Seq.{take-nil, drop-nil, take-at, drop-at, take-append-add, drop-append-add, take-append-le, drop-append-le}
 use lib.Pow.{pow-mono}
-use Rattle.bits.specs.Bits.{bits, number, bitsOf, packed, Bytes}
+use Rattle.bits.specs.Bits.{bits, number, bitsOf, packed, inBytes, Bytes}
 use Rattle.bits.proofs.Numbers.{length-bits, number-bits, number-lt, bits-of}
 
 pub length-bitsOf : (xs : List ℕ) → length (bitsOf xs) ≡ 8 * length xs
@@ -60,6 +60,10 @@ bitsOf-packed zero (b ∷ bs) h = absurd (omega arith)
 bitsOf-packed (suc n) bs h =
     ap₂ _++_ (bits-of 8 (take 8 bs) (rw length-take (omega arith))) (bitsOf-packed n (drop 8 bs) (rw length-drop (omega arith)))
     ∙ take-append-drop 8 bs
+
+-- the bits of a number written as bytes
+pub bitsOf-inBytes : (n v : ℕ) → bitsOf (inBytes n v) ≡ bits (8 * n) v
+bitsOf-inBytes n v = bitsOf-packed n (bits (8 * n) v) (length-bits (8 * n) v)
 
 pub packed-append : (m n : ℕ) (xs ys : List Bool) → length xs ≡ 8 * m → packed (m + n) (xs ++ ys) ≡ packed m xs ++ packed n ys
 unfolding packed

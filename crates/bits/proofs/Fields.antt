@@ -2,7 +2,7 @@
 -- field is that of the bytes it touches.
 -- Assumes nothing.
 use mathlib.Core.Path.{_≡_, refl, sym, ap, ap₂, _∙_}
-use mathlib.Core.Bool.{Bool, true, _&&_}
+use mathlib.Core.Bool.{Bool, true, false, _&&_, cond}
 use mathlib.Core.List.{List, [], _∷_, _++_, append-assoc}
 use Prim.Native.Nat.{ℕ, zero, suc, _+_, _*_, _^_, _%_, _≤_}
 use native.Mathlib.Nat.{add-assoc}
@@ -54,6 +54,14 @@ module _ (at w v : ℕ) (s : List ℕ) (h : at + w ≤ 8 * length s) where
 pub is-field : (at w : ℕ) (s : List ℕ) → w ≤ 32 → at + w ≤ 8 * length s → isField at w s ≡ true
 unfolding isField
 is-field at w s n h = ap₂ _&&_ (le-leb w 32 n) (le-leb (at + w) (8 * length s) h)
+
+-- replacing keeps the length, for every place and width
+pub length-replaced-answer : (at w v : ℕ) (s : List ℕ) → length (replacedAnswer at w v s) ≡ length s
+length-replaced-answer at w v s = go (isField at w s)
+  where
+    go : (inside : Bool) → length (cond inside (replaced at w v s) s) ≡ length s
+    go true = length-replaced at w v s
+    go false = refl
 
 -- reading what was replaced gives the value's low bits, for every width from 0 to 32
 pub read-replaced : (at w v : ℕ) (s : List ℕ) → w ≤ 32 → at + w ≤ 8 * length s

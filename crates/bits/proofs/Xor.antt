@@ -74,6 +74,12 @@ unfolding _⊞_
 pub ⊞-swap : (ws xs ys zs : List Bool) → (ws ⊞ xs) ⊞ (ys ⊞ zs) ≡ (ws ⊞ ys) ⊞ (xs ⊞ zs)
 ⊞-swap = interchange _⊞_ ⊞-assoc ⊞-comm
 
+-- what does not differ leaves 0s
+pub ⊞-self : (xs : List Bool) → xs ⊞ xs ≡ replicate (length xs) false
+unfolding _⊞_
+⊞-self [] = refl
+⊞-self (x ∷ xs) = ap₂ _∷_ (⊕-self x) (⊞-self xs)
+
 pub length-⊞ : (xs ys : List Bool) → length ys ≤ length xs → length (xs ⊞ ys) ≡ length xs
 unfolding _⊞_
 length-⊞ [] [] h = refl
@@ -104,6 +110,12 @@ unfolding _⊞_
 ⊞-append [] (x ∷ xs) ys zs h = absurd (omega arith)
 ⊞-append (w ∷ ws) [] ys zs h = absurd (omega arith)
 ⊞-append (w ∷ ws) (x ∷ xs) ys zs h = ap (λ (l : List Bool). (w ⊕ x) ∷ l) (⊞-append ws xs ys zs (suc-inj h))
+
+-- the same n bits in front leave 0s
+pub ⊞-still : (n : ℕ) (front xs ys : List Bool) → length front ≡ n → (front ++ xs) ⊞ (front ++ ys) ≡ replicate n false ++ (xs ⊞ ys)
+⊞-still n front xs ys long =
+    ⊞-append front front xs ys refl
+    ∙ ap (λ (l : List Bool). l ++ (xs ⊞ ys)) (⊞-self front ∙ ap (λ (m : ℕ). replicate m false) long)
 
 pub getD-⊞ : (xs ys : List Bool) (k : ℕ) → getD (xs ⊞ ys) k false ≡ getD xs k false ⊕ getD ys k false
 unfolding _⊞_

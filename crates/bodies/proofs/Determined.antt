@@ -6,6 +6,7 @@ use denote.Ref.{now}
 use Rattle.bodies.proofs.read.Reads as read
 use Rattle.bodies.proofs.fitting.Reads as fitting
 use Rattle.bodies.proofs.write.Reads as write
+use Rattle.bodies.proofs.fits.Reads as fits
 
 pub read-determined : (κs a r r′ s s′ : _) → read.Post κs a r s → read.Post κs a r′ s′ → now (s .1 .1 .0) ≡ now (s′ .1 .1 .0)
 read-determined κs a r r′ s s′ p q = p ∙ sym q
@@ -15,3 +16,6 @@ fitting-determined κs a r r′ s s′ p q = p ∙ sym q
 
 pub write-determined : (κs a r r′ s s′ : _) → write.Post κs a r s → write.Post κs a r′ s′ → now (s .1 .1 .0) ≡ now (s′ .1 .1 .0)
 write-determined κs a r r′ s s′ p q = p ∙ sym q
+
+pub fits-determined : (κs a r r′ s s′ : _) → fits.Post κs a r s → fits.Post κs a r′ s′ → r ≡ r′
+fits-determined κs a r r′ s s′ p q = p ∙ sym q

@@ -13,10 +13,10 @@ use lib.Seq.{take-at, drop-at, take-append-seam, drop-drop, length-take-le}
 use lib.Pow.{pow-mono}
 use borrow.Author.Tests.{lt-ltb, ltb-true, ltb-false}
 use Rattle.satellites.specs.declared.Satellite.{Satellite}
-use Rattle.bits.specs.Bits.{bits, number, bitsOf, packed, field, replaced, isField, replacedAnswer}
+use Rattle.bits.specs.Bits.{bits, number, bitsOf, packed, field, replaced, replacedAnswer}
 use Rattle.bits.proofs.Numbers.{length-bits, number-bits, number-lt, bits-of}
 use Rattle.bits.proofs.Bytes.{length-bitsOf}
-use Rattle.bits.proofs.Fields.{is-field, length-replaced, bits-replaced}
+use Rattle.bits.proofs.Fields.{is-field, length-replaced, length-replaced-answer, bits-replaced}
 use Rattle.layouts.specs.Layouts.{total, widthAt, startAt, layoutOf, entryOf}
 use Rattle.layouts.specs.Rules.{Allowed}
 use Rattle.bodies.specs.Bodies.{told, tiled, fitting, widthsIn, valuesFrom, laidFrom, filled}
@@ -211,8 +211,5 @@ pub length-laid : (at : ℕ) (ws vs body : List ℕ) → length (laidFrom at ws 
 unfolding laidFrom
 length-laid at [] vs body = refl
 length-laid at (w ∷ ws) vs body =
-    length-laid (at + w) ws (drop 1 vs) (replacedAnswer at w (getD vs 0 0) body) ∙ go (isField at w body)
-  where
-    go : (b : Bool) → length (cond b (replaced at w (getD vs 0 0) body) body) ≡ length body
-    go true = length-replaced at w (getD vs 0 0) body
-    go false = refl
+    length-laid (at + w) ws (drop 1 vs) (replacedAnswer at w (getD vs 0 0) body)
+    ∙ length-replaced-answer at w (getD vs 0 0) body

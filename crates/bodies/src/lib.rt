@@ -43,7 +43,7 @@ pub fn fitting(layout: Layout, values: &[u32]) -> usize
         if k == MOST_FIELDS {
             return k;
         }
-        if !fits(value_at(values, k), widths[k]) {
+        if !fits(value_at(values, k), widths[k] as usize) {
             return k;
         }
         k += 1;
@@ -77,8 +77,8 @@ fn value_at(values: &[u32], k: usize) -> u32
     if k < values.len() { values[k] } else { 0 }
 }
 
-// A value fits so many bits. In 64 bits, since a field can have 32.
-fn fits(value: u32, width: u8) -> bool
+// Whether a value fits so many bits. In 64 bits, since a field can have 32.
+pub fn fits(value: u32, width: usize) -> bool
     ensures { λ r. ⌜ r ≡ ltb value (2 ^ width) ⌝ }
 {
     if width < 32 {

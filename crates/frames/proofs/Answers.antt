@@ -8,7 +8,7 @@ use mathlib.Core.Bool.{Bool, true, false, cond}
 use mathlib.Core.List.{List, _++_}
 use lib.Dec.{eqb, ltb}
 use lib.ListN.{length, drop, getD}
-use borrow.Author.Tests.{eqb-true, eqb-false, ne-eqb, ltb-true, ltb-false}
+use borrow.Author.Tests.{eq-eqb, eqb-true, eqb-false, ne-eqb, ltb-true, ltb-false}
 use Rattle.scrambler.specs.declared.Register.{Register}
 use Rattle.satellites.specs.declared.Satellite.{Satellite}
 use Rattle.satellites.specs.declared.Known.{Known}
@@ -21,19 +21,22 @@ use Rattle.scrambler.specs.Scrambler.{restarted}
 use Rattle.frames.specs.declared.Reading.{Reading}
 use Rattle.frames.specs.declared.Writing.{Writing}
 use Rattle.frames.specs.Tests.{test, refusal, AllHold}
-use Rattle.frames.specs.Frames.{frameOf, frameLength, typeOf, valuesOf}
-use Rattle.frames.specs.Reading.{frontTests, readingTests, acceptedReading, refusedReading, reading, roomAfter}
+use Rattle.frames.specs.Frames.{fromTypeByte, frameOf, frameLength, typeOf, valuesOf}
+use Rattle.frames.specs.Reading.{checksumRight, frontTests, wholeTests, readingTests}
+use Rattle.frames.specs.Reading.{acceptedReading, refusedReading, reading, roomAfter}
+use Rattle.frames.specs.Editing.{editingTests, editing, frameAfter}
 use Rattle.frames.specs.Writing.{writingTests, acceptedWriting, refusedWriting, writing, outputAfter}
-use Rattle.frames.proofs.Tests.{first-fails, Numbered, all-hold}
+use Rattle.frames.proofs.Tests.{goes, ahead-held, first-fails, Numbered, all-hold}
 use Rattle.frames.proofs.Readings as readings
 use Rattle.frames.proofs.Readings.{readAs}
 use Rattle.frames.proofs.Writings as writings
 use Rattle.frames.proofs.Writings.{wroteAs}
+use Rattle.frames.proofs.Edits as edits
 
 -- ---- reading
 
 pub reading-numbered : (r : Register) (k : Known) (frame room : List ℕ) → Numbered (readingTests r k frame room)
-unfolding readingTests frontTests every
+unfolding readingTests wholeTests frontTests every
 reading-numbered r Unknown frame room = tt
 reading-numbered r (Is s) frame room = tt
 
@@ -68,6 +71,15 @@ module _ (r : Register) (s : Satellite) (frame room : List ℕ) where
 
     pub all-held : AllHold (readingTests r (Is s) frame room)
     all-held = all-hold (readingTests r (Is s) frame room) (reading-numbered r (Is s) frame room) none-failed
+
+    -- it is whole, and its checksum is right
+    pub was-whole : refusal (wholeTests s frame) ≡ 0
+    unfolding readingTests
+    was-whole = ahead-held (wholeTests s frame) _ (sym (goes 1 true _ refl) ∙ none-failed)
+
+    pub was-right : checksumRight r (fromTypeByte s frame) ≡ true
+    unfolding readingTests wholeTests frontTests
+    was-right = all-held 8 (omega arith)
 
     its-answer : acceptedReading s frame ≡ readAs t n
     its-answer = readings.accepted-with r s frame room none-failed .0 ∙ accepted
@@ -168,3 +180,38 @@ module _ (r : Register) (s : Satellite) (t : ℕ) (values output : List ℕ) whe
     its-output =
         sym (writings.accepted-with r s t values output none-refused .1)
         ∙ ap (λ (m : ℕ). frameOf r s t values ++ drop m output) its-frame
+
+-- ---- editing
+
+pub editing-numbered : (r : Register) (s : Known) (frame : List ℕ) (k v : ℕ) → Numbered (editingTests r s frame k v)
+unfolding editingTests wholeTests frontTests every
+editing-numbered r Unknown frame k v = tt
+editing-numbered r (Is s) frame k v = tt
+
+pub editing-number : (r : Register) (s : Known) (frame : List ℕ) (k v : ℕ)
+    → editing r s frame k v .refusal ≡ refusal (editingTests r s frame k v)
+unfolding editing
+editing-number r Unknown frame k v = refl
+editing-number r (Is s) frame k v = go (eqb number 0) refl
+  where
+    number : ℕ
+    number = refusal (editingTests r (Is s) frame k v)
+
+    go : (b : Bool) → eqb number 0 ≡ b → (cond b (acceptedWriting s (typeOf s frame)) (refusedWriting number k)) .refusal ≡ number
+    go true e = sym (eqb-true number 0 e)
+    go false e = refl
+
+-- a refusal answers 0, or the field's number, and leaves the frame
+answer-11 : (n k : ℕ) → n ≡ 11 → refusedWriting n k ≡ record { refusal = n; answer = k }
+answer-11 n k e = rw (eq-eqb n 11 e)
+
+pub editing-refused : (r : Register) (s : Known) (frame : List ℕ) (k v n : ℕ) → editing r s frame k v .refusal ≡ n → n ≢ 0
+    → (n ≢ 11 → editing r s frame k v ≡ record { refusal = n; answer = 0 })
+    × ((n ≡ 11 → editing r s frame k v ≡ record { refusal = n; answer = k }) × (frameAfter r s frame k v ≡ frame))
+unfolding editing frameAfter
+editing-refused r Unknown frame k v n e some =
+    let told = ap (λ (m : ℕ). refusedWriting m k) e in
+    (λ other. told ∙ answer-of n k other, (λ same. told ∙ answer-11 n k same, refl))
+editing-refused r (Is s) frame k v n e some =
+    let told = edits.refused-with r s frame k v n (sym (editing-number r (Is s) frame k v) ∙ e) some in
+    (λ other. sym (told .0) ∙ answer-of n k other, (λ same. sym (told .0) ∙ answer-11 n k same, sym (told .1)))

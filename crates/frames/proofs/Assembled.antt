@@ -11,7 +11,7 @@ use Rattle.bits.specs.Bits.{packed}
 use Rattle.scrambler.specs.declared.Register.{Register}
 use Rattle.satellites.specs.declared.Satellite.{Satellite}
 use Rattle.satellites.specs.Satellites.{addressOf, typeByteAt}
-use Rattle.layouts.specs.Layouts.{total, carries, entryOf}
+use Rattle.layouts.specs.Layouts.{total, carries, entryOf, layoutOf}
 use Rattle.layouts.proofs.Entries.{tiles-body, widths-allowed}
 use Rattle.bodies.specs.Bodies.{tiled, laidFrom}
 use Rattle.bodies.proofs.Laws.{laid-tiled}
@@ -25,6 +25,10 @@ size-least s t carried = omega (arith, tiles-body s t carried)
 
 pub three-least : (s : Satellite) (t : ℕ) → carries s t ≡ true → 3 ≤ entryOf s t .size
 three-least s t carried = omega (arith, tiles-body s t carried)
+
+-- the frame's length, as it is told
+pub told-length : (s : Satellite) (t : ℕ) → carries s t ≡ true → layoutOf s t .frame ≡ frameLength s t
+told-length s t carried = rw carried
 
 -- a part with its first bytes put over it, and what is lent of it behind them
 abbrev over : ℕ → List ℕ → List ℕ → List ℕ

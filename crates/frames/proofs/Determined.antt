@@ -1,11 +1,12 @@
 -- Any two results that a public function's contract allows for one input are equal: the answer, and what is left in the
--- lent room or output. `Post` is the contract's own text, as the check reads it: the arguments, the result, and the
+-- lent room, output or frame. `Post` is the contract's own text, as the check reads it: the arguments, the result, and the
 -- parameters at exit.
 -- Assumes nothing.
 use mathlib.Core.Path.{_≡_, sym, _∙_}
 use denote.Ref.{now}
 use Rattle.frames.proofs.read.Reads as read
 use Rattle.frames.proofs.write.Reads as write
+use Rattle.frames.proofs.edit.Reads as edit
 
 pub read-determined : (κs a r r′ s s′ : _) → read.Post κs a r s → read.Post κs a r′ s′
     → (r ≡ r′) × (now (s .1 .1 .0) ≡ now (s′ .1 .1 .0))
@@ -14,3 +15,7 @@ read-determined κs a r r′ s s′ p q = (p .0 ∙ sym (q .0), p .1 ∙ sym (q 
 pub write-determined : (κs a r r′ s s′ : _) → write.Post κs a r s → write.Post κs a r′ s′
     → (r ≡ r′) × (now (s .1 .1 .1 .0) ≡ now (s′ .1 .1 .1 .0))
 write-determined κs a r r′ s s′ p q = (p .0 ∙ sym (q .0), p .1 ∙ sym (q .1))
+
+pub edit-determined : (κs a r r′ s s′ : _) → edit.Post κs a r s → edit.Post κs a r′ s′
+    → (r ≡ r′) × (now (s .1 .0) ≡ now (s′ .1 .0))
+edit-determined κs a r r′ s s′ p q = (p .0 ∙ sym (q .0), p .1 ∙ sym (q .1))

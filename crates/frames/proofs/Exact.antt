@@ -19,17 +19,18 @@ use Rattle.layouts.specs.Layouts.{carries, entryOf, widthAt, startAt}
 use Rattle.bodies.specs.Bodies.{told, fitting}
 use Rattle.bodies.proofs.Laws.{length-told, told-at, fitting-told}
 use Rattle.frames.specs.Tests.{refusal}
-use Rattle.frames.specs.Frames.{sizeIn, training, sync, typeByte, frameOf, frameLength}
+use Rattle.frames.specs.Frames.{sizeIn, training, sync, frameOf, frameLength}
 use Rattle.frames.specs.Frames.{fromTypeByte, checksumIn, clearBody, clear, typeOf, entryIn, valuesOf}
-use Rattle.frames.specs.Reading.{frontTests, readingTests, reading, roomAfter}
+use Rattle.frames.specs.Reading.{frontTests, wholeTests, readingTests, reading, roomAfter}
 use Rattle.frames.specs.Writing.{writingTests, writing, outputAfter}
 use Rattle.frames.proofs.Fronts as fronts
 use Rattle.frames.proofs.Readings as readings
 use Rattle.frames.proofs.Readings.{readAs}
 use Rattle.frames.proofs.Writings as writings
 use Rattle.frames.proofs.Writings.{wroteAs}
-use Rattle.frames.proofs.Assembled.{three-least}
-use Rattle.frames.proofs.Wholes.{frame-again, its-length, values-again}
+use Rattle.frames.proofs.Assembled.{three-least, told-length}
+use Rattle.frames.proofs.Wholes.{frame-again, values-again}
+use Rattle.frames.proofs.Wholes as wholes
 use Rattle.frames.proofs.Answers as answers
 use Rattle.frames.proofs.Says.{below, equal, same-bytes, both, only-where}
 
@@ -51,7 +52,7 @@ module _ (r : Register) (s : Satellite) (frame room : List ℕ) where
     values-length = length-told (entryIn s frame .widths) (bitsOf (clearBody r part)) ∙ count
 
     enough : n ≤ length room
-    unfolding readingTests frontTests
+    unfolding readingTests wholeTests frontTests
     enough =
         omega (
           arith,
@@ -83,12 +84,46 @@ module _ (r : Register) (s : Satellite) (frame room : List ℕ) where
         × ((length (roomAfter r (Is s) frame room) ≡ length room) × (drop n (roomAfter r (Is s) frame room) ≡ drop n room))
     room-told = (value-at, (room-length, room-behind))
 
-    values-read : take n (roomAfter r (Is s) frame room) ≡ told (entryOf s t .widths) (bitsOf (clearBody r part))
+    pub values-read : take n (roomAfter r (Is s) frame room) ≡ told (entryOf s t .widths) (bitsOf (clearBody r part))
     unfolding valuesOf
     values-read =
         ap (take n) (answers.its-room r s frame room t n answer)
         ∙ take-at (valuesOf r s frame) (drop n room) n values-length
         ∙ ap (λ (u : ℕ). told (entryOf s u .widths) (bitsOf (clearBody r part))) typed
+
+    -- it is the frame of its values
+    pub frame-of-values : Bytes frame → frameOf r s t (take n (roomAfter r (Is s) frame room)) ≡ frame
+    unfolding valuesOf
+    frame-of-values b =
+        ap₂ (frameOf r s) (sym typed) (values-read ∙ ap (λ (u : ℕ). told (entryOf s u .widths) (bitsOf (clearBody r part))) (sym typed))
+        ∙ frame-again r s frame (answers.was-whole r s frame room t n answer) (answers.was-right r s frame room t n answer) b
+
+    whole : refusal (wholeTests s frame) ≡ 0
+    whole = answers.was-whole r s frame room t n answer
+
+    pub its-carried : carries s t ≡ true
+    its-carried = ap (carries s) (sym typed) ∙ fronts.is-carried s frame whole
+
+    pub its-length : length frame ≡ frameLength s t
+    its-length = fronts.is-whole s frame whole ∙ ap (frameLength s) typed
+
+    pub as-many : length (take n (roomAfter r (Is s) frame room)) ≡ length (entryOf s t .widths)
+    as-many = ap length values-read ∙ length-told (entryOf s t .widths) (bitsOf (clearBody r part))
+
+    pub all-fit : fitting (entryOf s t .widths) (take n (roomAfter r (Is s) frame room)) ≡ length (entryOf s t .widths)
+    all-fit = ap (fitting (entryOf s t .widths)) values-read ∙ fitting-told (entryOf s t .widths) (bitsOf (clearBody r part))
+
+    -- values that fit its type, written into an output that it fits
+    pub written-alike : (values output : List ℕ) → length values ≡ length (entryOf s t .widths)
+        → fitting (entryOf s t .widths) values ≡ length (entryOf s t .widths) → length frame ≤ length output
+        → (writing (Is s) t values output ≡ wroteAs (length frame))
+        × (outputAfter r (Is s) t values output ≡ frameOf r s t values ++ drop (length frame) output)
+    written-alike values output many fit fills =
+        let none = writings.none-fails r s t values output its-carried many fit (omega (arith, fills, its-length)) in
+        let made = writings.accepted-with r s t values output none in (
+          sym (made .0) ∙ ap wroteAs (sym its-length),
+          sym (made .1) ∙ ap (λ (m : ℕ). frameOf r s t values ++ drop m output) (sym its-length),
+        )
 
   -- ---- a frame whose parts are right
 
@@ -115,33 +150,18 @@ module _ (r : Register) (s : Satellite) (frame room : List ℕ) where
         (equal (sizeIn s frame) (entryIn s frame .size)) .1
         (λ has. sized has ∙ sym (ap (λ (u : ℕ). entryOf s u .size) its-type)))
 
+    passes-7 : refusal (wholeTests s frame) ≡ 0
+    passes-7 =
+        fronts.whole-holds s frame front
+        (long ∙ ap (frameLength s) (sym its-type) ∙ sym (told-length s (typeOf s frame) (ap (carries s) its-type ∙ carried)))
+
     pub right-accepted : length (entryOf s t .widths) ≤ length room
         → reading r (Is s) frame room ≡ readAs t (length (entryOf s t .widths))
     right-accepted roomy =
         let same-count = ap (λ (u : ℕ). length (entryOf s u .widths)) its-type in
-        let none = readings.none-fails r s frame room front (long ∙ ap (frameLength s) (sym its-type)) (omega (arith, same-count, roomy))
+        let none = readings.none-fails r s frame room passes-7 (omega (arith, same-count, roomy))
         (equal (checksumIn part) (checksum (clear r part)) .1 right) in
         sym (readings.accepted-with r s frame room none .0) ∙ ap (λ (u : ℕ). readAs u (length (entryOf s u .widths))) its-type
-
-    -- what was read of it, written
-    pub rewritten : (n : ℕ) → reading r (Is s) frame room ≡ readAs t n → Bytes frame → (output : List ℕ)
-        → length frame ≤ length output
-        → let values = take n (roomAfter r (Is s) frame room) in
-        (writing (Is s) t values output ≡ wroteAs (length frame))
-        × (outputAfter r (Is s) t values output ≡ frame ++ drop (length frame) output)
-    rewritten n answer b output fills =
-        let ws = entryOf s t .widths in
-        let bs = bitsOf (clearBody r part) in
-        let values = take n (roomAfter r (Is s) frame room) in
-        let its-values = values-read t n answer in
-        let byte : getD frame (typeByteAt s) 0 ≡ typeByte s t = omega (arith, high, address) in
-        let again = ap (frameOf r s t) its-values ∙ frame-again r s t carried frame b trained synced byte sized long right in
-        let none = writings.none-fails r s t values output carried (ap length its-values ∙ length-told ws bs)
-        (ap (fitting ws) its-values ∙ fitting-told ws bs) (omega (arith, fills, long)) in
-        let told = writings.accepted-with r s t values output none in (
-          sym (told .0) ∙ ap wroteAs (sym long),
-          sym (told .1) ∙ ap₂ (λ (l : List ℕ) (m : ℕ). l ++ drop m output) again (sym long),
-        )
 
 -- ---- a frame that was written
 
@@ -157,20 +177,20 @@ module _ (r : Register) (s : Satellite) (t n : ℕ) (values output : List ℕ)
   unfolding writingTests
   was-carried = answers.all-kept r s t values output n answer 1 (omega arith)
 
-  as-many : length values ≡ length ws
+  were-as-many : length values ≡ length ws
   unfolding writingTests
-  as-many = eqb-true (length values) (length ws) (answers.all-kept r s t values output n answer 2 (omega arith))
+  were-as-many = eqb-true (length values) (length ws) (answers.all-kept r s t values output n answer 2 (omega arith))
 
-  all-fit : fitting ws values ≡ length ws
+  did-fit : fitting ws values ≡ length ws
   unfolding writingTests
-  all-fit = eqb-true (fitting ws values) (length ws) (answers.all-kept r s t values output n answer 3 (omega arith))
+  did-fit = eqb-true (fitting ws values) (length ws) (answers.all-kept r s t values output n answer 3 (omega arith))
 
   fills : frameLength s t ≤ length output
   unfolding writingTests
   fills = leb-true (frameLength s t) (length output) (answers.all-kept r s t values output n answer 4 (omega arith))
 
   written-length : length written ≡ n
-  written-length = its-length r s t was-carried values ∙ answers.its-frame r s t values output n answer
+  written-length = wholes.its-length r s t was-carried values ∙ answers.its-frame r s t values output n answer
 
   pub output-front : take n (outputAfter r (Is s) t values output) ≡ written
   output-front = ap (take n) (answers.its-output r s t values output n answer) ∙ take-at written (drop n output) n written-length
@@ -192,13 +212,13 @@ module _ (r : Register) (s : Satellite) (t n : ℕ) (values output : List ℕ)
       × (roomAfter r (Is s) frame room ≡ values ++ drop (length values) room)
   unfolding valuesOf
   reread room roomy accepts =
-      let read = accepts (omega (arith, as-many, roomy)) in
+      let read = accepts (omega (arith, were-as-many, roomy)) in
       let its = answers.its-type r s written room t (length ws) read in (
-        ap (λ (f : List ℕ). reading r (Is s) f room) output-front ∙ read ∙ ap (readAs t) (sym as-many),
+        ap (λ (f : List ℕ). reading r (Is s) f room) output-front ∙ read ∙ ap (readAs t) (sym were-as-many),
         ap (λ (f : List ℕ). roomAfter r (Is s) f room) output-front
             ∙ answers.its-room r s written room t (length ws) read
             ∙ ap₂ (λ (l : List ℕ) (m : ℕ). l ++ drop m room)
             (ap (λ (u : ℕ). told (entryOf s u .widths) (bitsOf (clearBody r (fromTypeByte s written)))) its
-            ∙ values-again r s t was-carried values as-many all-fit)
-            (sym as-many),
+            ∙ values-again r s t was-carried values were-as-many did-fit)
+            (sym were-as-many),
       )

@@ -1,22 +1,34 @@
--- Tests 2 to 6: what a front is refused with, and what an accepted front tells.
+-- Tests 2 to 7: what a frame is refused with by them, and what lies from type byte to checksum where none fails.
 -- Assumes nothing.
-use Prim.Native.Nat.{ℕ}
+use Prim.Native.Nat.{ℕ, _+_, _-_, _*_, _%_, _≤_, _<_}
 use Prim.{⊥}
-use mathlib.Core.Path.{_≡_, _∙_, ap, ap₂}
+use native.Mathlib.Omega.{arith}
+use mathlib.Core.Path.{_≡_, sym, _∙_, ap, ap₂}
+use mathlib.Core.Logic.{_≢_}
 use mathlib.Core.Bool.{Bool, true, false, not, _||_}
 use mathlib.Core.List.{List, []}
-use borrow.Author.Tests.{eq-eqb, ne-eqb}
+use borrow.Author.Tests.{eq-eqb, ne-eqb, eqb-true, ltb-true}
 use lib.Dec.{eqb, ltb}
 use native.Mathlib.Nat.{add-zero}
-use lib.Seq.{getD-drop}
-use lib.ListN.{length, getD, drop}
+use lib.Seq.{getD-drop, take-all}
+use lib.ListN.{length, getD, take, drop, length-drop}
+use Rattle.scrambler.specs.declared.Register.{Register}
+use Rattle.scrambler.specs.declared.Direction.the-variants.{Unscramble}
+use Rattle.scrambler.proofs.Parts.{length-answer}
 use Rattle.satellites.specs.declared.Satellite.{Satellite}
-use Rattle.satellites.specs.Satellites.{addressOf, sizeByteOf, typeByteAt}
-use Rattle.layouts.specs.Layouts.{carries}
-use Rattle.frames.specs.Tests.{refusal}
-use Rattle.frames.specs.Frames.{sizeIn, fromTypeByte, addressIn, typeOf, entryIn}
-use Rattle.frames.specs.Reading.{preambled, frontTests}
-use Rattle.frames.proofs.Tests.{stops, goes, none-left}
+use Rattle.satellites.specs.Satellites.{addressOf, trainingOf, sizeByteOf, typeByteAt}
+use Rattle.layouts.specs.Rules.{every}
+use Rattle.layouts.specs.Layouts.{total, carries, layoutOf}
+use Rattle.layouts.proofs.Entries.{tiles-body, size-most}
+use Rattle.frames.specs.Tests.{refusal, AllHold, Iff}
+use Rattle.frames.specs.Frames.{training, sync, ahead, typeByte, frameLength}
+use Rattle.frames.specs.Frames.{sizeIn, fromTypeByte, addressIn, bodyIn, clearBody, typeOf, entryIn}
+use Rattle.frames.specs.Reading.{preambled, frontTests, wholeTests}
+use Rattle.frames.proofs.Tests.{stops, goes, none-left, Numbered, all-hold, behind-held, behind-failed}
+use Rattle.frames.proofs.Parts.{length-body}
+use Rattle.frames.proofs.Preambles.{is-ahead}
+use Rattle.frames.proofs.Assembled.{three-least, told-length}
+use Rattle.frames.proofs.Says.{equal, same-bytes, both, only-where}
 
 -- the byte at a place, and the first of those from there on
 pub first-at : (n : ℕ) (l : List ℕ) → getD (drop n l) 0 0 ≡ getD l n 0
@@ -74,3 +86,105 @@ module _ (s : Satellite) (frame : List ℕ) where
   pub none-fails : long ≡ true → preamble ≡ true → addressed ≡ true → carried ≡ true → sized ≡ true → refusal (frontTests s frame) ≡ 0
   unfolding frontTests
   none-fails a b c d e = goes 2 long _ a ∙ goes 3 preamble _ b ∙ goes 4 addressed _ c ∙ goes 5 carried _ d ∙ goes 6 sized [] e ∙ none-left
+
+  -- test 7, behind them
+  pub front-refused : refusal (frontTests s frame) ≢ 0 → refusal (wholeTests s frame) ≡ refusal (frontTests s frame)
+  unfolding wholeTests
+  front-refused some = behind-failed (frontTests s frame) _ some
+
+  module _ (front : refusal (frontTests s frame) ≡ 0) where
+    held : AllHold (frontTests s frame)
+    unfolding frontTests every
+    held = all-hold (frontTests s frame) tt front
+
+    its-frame : layoutOf s (typeOf s frame) .frame ≡ frameLength s (typeOf s frame)
+    unfolding frontTests
+    its-frame = told-length s (typeOf s frame) (held 3 (omega arith))
+
+    pub fails-7 : (length frame ≡ layoutOf s (typeOf s frame) .frame → ⊥) → refusal (wholeTests s frame) ≡ 7
+    unfolding wholeTests
+    fails-7 other =
+        behind-held (frontTests s frame) _ held
+        ∙ stops 7 _ [] (ne-eqb (length frame) (frameLength s (typeOf s frame)) (λ e. other (e ∙ sym its-frame)))
+
+    pub whole-holds : length frame ≡ layoutOf s (typeOf s frame) .frame → refusal (wholeTests s frame) ≡ 0
+    unfolding wholeTests
+    whole-holds as-long =
+        behind-held (frontTests s frame) _ held
+        ∙ goes 7 _ [] (eq-eqb (length frame) (frameLength s (typeOf s frame)) (as-long ∙ its-frame))
+        ∙ none-left
+
+  pub whole-numbered : Numbered (wholeTests s frame)
+  unfolding wholeTests frontTests every
+  whole-numbered = tt
+
+  right-preamble : Iff preamble ((take (trainingOf s) frame ≡ training s) × (take 2 (drop (trainingOf s) frame) ≡ sync))
+  right-preamble = both (same-bytes (take (trainingOf s) frame) (training s)) (same-bytes (take 2 (drop (trainingOf s) frame)) sync)
+
+  -- where none of them fails
+  module _ (whole : refusal (wholeTests s frame) ≡ 0) where
+    pub whole-held : AllHold (wholeTests s frame)
+    whole-held = all-hold (wholeTests s frame) whole-numbered whole
+
+    pub is-long : typeByteAt s < length frame
+    unfolding wholeTests frontTests
+    is-long = ltb-true (typeByteAt s) (length frame) (whole-held 0 (omega arith))
+
+    pub is-carried : carries s (typeOf s frame) ≡ true
+    unfolding wholeTests frontTests
+    is-carried = whole-held 3 (omega arith)
+
+    pub is-whole : length frame ≡ frameLength s (typeOf s frame)
+    unfolding wholeTests frontTests
+    is-whole = eqb-true (length frame) (frameLength s (typeOf s frame)) (whole-held 5 (omega arith))
+
+    is-trained : take (trainingOf s) frame ≡ training s
+    unfolding wholeTests frontTests
+    is-trained = right-preamble .0 (whole-held 1 (omega arith)) .0
+
+    is-synced : take 2 (drop (trainingOf s) frame) ≡ sync
+    unfolding wholeTests frontTests
+    is-synced = right-preamble .0 (whole-held 1 (omega arith)) .1
+
+    is-sized : sizeByteOf s ≡ true → sizeIn s frame ≡ entryIn s frame .size
+    unfolding wholeTests frontTests
+    is-sized =
+        only-where (sizeByteOf s) (eqb (sizeIn s frame) (entryIn s frame .size))
+        (equal (sizeIn s frame) (entryIn s frame .size)) .0 (whole-held 4 (omega arith))
+
+    -- type and address are the type byte
+    pub is-typed : getD (fromTypeByte s frame) 0 0 ≡ typeByte s (typeOf s frame)
+    unfolding wholeTests frontTests
+    is-typed =
+        let x = getD (fromTypeByte s frame) 0 0 in
+        let low : x % 16 ≡ addressOf s = eqb-true (x % 16) (addressOf s) (whole-held 2 (omega arith)) in
+        omega (arith, low)
+
+    abbrev part : List ℕ
+    part = fromTypeByte s frame
+
+    part-length : length part ≡ entryIn s frame .size
+    part-length = length-drop (typeByteAt s) frame ∙ omega (arith, is-whole)
+
+    pub part-least : 3 ≤ length part
+    part-least = omega (arith, part-length, three-least s (typeOf s frame) is-carried)
+
+    pub part-most : length part ≤ 255
+    part-most = omega (arith, part-length, size-most s (typeOf s frame) is-carried)
+
+    pub lent-part : take (length frame - typeByteAt s) part ≡ part
+    lent-part = take-all (length frame - typeByteAt s) part (omega (arith, length-drop (typeByteAt s) frame))
+
+    -- what stands ahead of it
+    pub front-is : take (typeByteAt s) frame ≡ ahead s (entryIn s frame .size)
+    front-is = is-ahead s (entryIn s frame .size) frame is-trained is-synced is-sized (omega (arith, is-long))
+
+    -- the unscrambled body, which the fields tile
+    module _ (r : Register) where
+      pub clear-length : length (clearBody r part) + 3 ≡ entryIn s frame .size
+      unfolding clearBody
+      clear-length =
+          ap (λ (n : ℕ). n + 3) (length-answer Unscramble r (bodyIn part)) ∙ length-body part part-least ∙ part-length
+
+      pub clear-tiled : total (entryIn s frame .widths) ≡ 8 * length (clearBody r part)
+      clear-tiled = omega (arith, tiles-body s (typeOf s frame) is-carried, clear-length)

@@ -1,14 +1,18 @@
 mod Tests
 mod Preambles
 mod Parts
-mod Fronts
 mod Assembled
+mod Says
+mod Fronts
 mod Readings
 mod Writings
 mod Seals
 mod Wholes
+mod Flips
+mod Edits
 mod Answers
-mod Says
 mod Exact
-pub mod Demands
+pub mod DemandOne
+pub mod DemandTwo
+pub mod DemandThree
 pub mod Determined

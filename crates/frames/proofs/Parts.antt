@@ -219,3 +219,45 @@ body-put (x ∷ xs) ys v h e =
 pub first-put : (part ys : List ℕ) (v : ℕ) → 3 ≤ length part → getD (set (put part ys) 0 v) 0 0 ≡ v
 first-put [] ys v h = absurd (omega arith)
 first-put (x ∷ xs) ys v h = refl
+
+-- ---- a part in the clear, with another body put into it
+
+module _ (r : Register) (sent : List ℕ) (h : 3 ≤ length sent) where
+  abbrev pub opened : List ℕ
+  opened = clear r sent ++ drop (length sent - 2) sent
+
+  length-opened : length opened ≡ length sent
+  length-opened =
+      length-append (clear r sent) (drop (length sent - 2) sent)
+      ∙ omega (arith, length-clear r sent h, length-drop (length sent - 2) sent, h)
+
+  -- copied over a part of its length, from a copy with more bytes behind
+  pub opened-copied : (copy behind to : List ℕ) → copy ≡ opened → length to ≡ length sent
+      → let from = take (length sent - 0) (copy ++ behind) in
+      take (length from) from ++ drop (length from) to ≡ opened
+  opened-copied copy behind to e same =
+      let front : take (length sent - 0) (copy ++ behind) ≡ opened =
+      take-at copy behind (length sent - 0) (ap length e ∙ length-opened ∙ omega arith) ∙ e in
+      ap (λ (l : List ℕ). take (length l) l ++ drop (length l) to) front
+      ∙ copied opened to (same ∙ sym length-opened)
+
+  abbrev filled : List ℕ → List ℕ → List ℕ
+  filled part ys = take 1 part ++ (ys ++ drop (length sent - 2 - 1) (drop 1 part))
+
+  -- what is lent of it is the unscrambled body, and it seals with what comes back
+  pub opened-sealed : (part ys : List ℕ) (f : List ℕ → List ℕ) → part ≡ opened
+      → ys ≡ f (take (length sent - 2 - 1) (drop 1 part)) → length (f (clearBody r sent)) ≡ length (clearBody r sent)
+      → sealed r (getD (filled part ys) 0 0) (bodyIn (filled part ys)) ≡ sealed r (getD sent 0 0) (f (clearBody r sent))
+  opened-sealed part ys f is e keeps =
+      let n = length sent - 2 - 1 in
+      let lends : take n (drop 1 part) ≡ clearBody r sent =
+      ap (λ (l : List ℕ). take n (drop 1 l)) (is ∙ sym (append-nil opened)) ∙ told-body r sent opened [] h refl in
+      let new : ys ≡ f (clearBody r sent) = e ∙ ap f lends in
+      let seen : filled part ys ≡ put opened ys =
+      ap₂ (λ (l : List ℕ) (m : ℕ). take 1 l ++ (ys ++ drop m (drop 1 l))) is (ap (λ (m : ℕ). m - 2 - 1) (sym length-opened)) in
+      let long : 3 ≤ length opened = omega (arith, length-opened, h) in
+      let fits : length ys ≡ length (lent opened) =
+      ap length new ∙ keeps ∙ ap length (sym lends ∙ ap (λ (l : List ℕ). take n (drop 1 l)) is)
+      ∙ ap (λ (m : ℕ). length (take (m - 2 - 1) (drop 1 opened))) (sym length-opened) in
+      ap (λ (l : List ℕ). sealed r (getD l 0 0) (bodyIn l)) seen
+      ∙ ap (sealed r (getD sent 0 0)) (body-put opened ys (getD sent 0 0) long fits ∙ new)

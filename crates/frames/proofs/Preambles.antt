@@ -3,16 +3,16 @@
 use Prim.Native.Nat.{ℕ, zero, suc, _+_, _-_, _≤_, _<_}
 use native.Mathlib.Nat.{le-of-suc-le-suc, not-suc-le-zero}
 use native.Mathlib.Omega.{arith}
-use mathlib.Core.Path.{_≡_, refl, sym, _∙_, ap}
+use mathlib.Core.Path.{_≡_, refl, sym, _∙_, ap, ap₂}
 use mathlib.Core.Bool.{Bool, true, false, cond}
 use mathlib.Core.List.{List, [], _∷_, _++_, append-assoc}
-use lib.ListN.{length, length-append, take, drop, set, replicate, length-take, length-drop, length-replicate, drop-of-length-le}
-use lib.Seq.{take-length, take-at, drop-at, set-at}
+use lib.ListN.{length, length-append, getD, take, drop, set, replicate, length-take, length-drop, length-replicate, drop-of-length-le}
+use lib.Seq.{take-length, take-at, take-add, drop-at, drop-cons, set-at}
 use Rattle.satellites.specs.declared.Satellite.{Satellite}
 use Rattle.satellites.specs.Satellites.{trainingOf, sizeByteOf, typeByteAt}
 use Rattle.satellites.proofs.Laws.{training-most}
 use Rattle.frames.specs.Tests.{same}
-use Rattle.frames.specs.Frames.{training, sync, ahead}
+use Rattle.frames.specs.Frames.{training, sync, sizeByte, ahead, sizeIn}
 use Rattle.frames.proofs.Tests.{is-same}
 
 -- the longest training
@@ -121,3 +121,26 @@ module _ (s : Satellite) (n : ℕ) (its : n ≡ trainingOf s) where
         (length-append (training s) sync ∙ ap (λ (k : ℕ). k + 2) as-long) one
         ∙ append-assoc (training s) sync (size ∷ [])
         ∙ sym (ap (λ (b : Bool). training s ++ (sync ++ cond b (size ∷ []) [])) has)
+
+-- ---- a frame whose front is right
+
+module _ (s : Satellite) (size : ℕ) (frame : List ℕ)
+    (trained : take (trainingOf s) frame ≡ training s)
+    (synced : take 2 (drop (trainingOf s) frame) ≡ sync)
+    (sized : sizeByteOf s ≡ true → sizeIn s frame ≡ size)
+    (long : typeByteAt s ≤ length frame) where
+  size-byte : (has : Bool) → sizeByteOf s ≡ has
+      → take (cond has 1 0) (drop (trainingOf s + 2) frame) ≡ cond has (size ∷ []) []
+  size-byte false none = refl
+  size-byte true has =
+      let at : typeByteAt s ≡ trainingOf s + 2 + 1 = ap (λ (b : Bool). trainingOf s + 2 + cond b 1 0) has in
+      let ahead-of : typeByteAt s - 1 ≡ trainingOf s + 2 = omega (arith, at) in
+      ap (take 1) (drop-cons frame (trainingOf s + 2) 0 (omega (arith, long, at)))
+      ∙ ap (λ (x : ℕ). x ∷ []) (ap (λ (k : ℕ). getD frame k 0) (sym ahead-of) ∙ sized has)
+
+  -- so is all that stands ahead of the type byte
+  pub is-ahead : take (typeByteAt s) frame ≡ ahead s size
+  is-ahead =
+      take-add (trainingOf s + 2) (cond (sizeByteOf s) 1 0) frame
+      ∙ ap₂ _++_ (take-add (trainingOf s) 2 frame ∙ ap₂ _++_ trained synced) (size-byte (sizeByteOf s) refl)
+      ∙ append-assoc (training s) sync (sizeByte s size)

@@ -1,34 +1,28 @@
 -- What reading answers and leaves, from the tests that hold and the first that fails.
 -- Assumes nothing.
 use Prim.{⊥}
-use Prim.Native.Nat.{ℕ, _-_, _*_, _≤_, _<_}
+use Prim.Native.Nat.{ℕ, _-_, _≤_, _<_}
 use native.Mathlib.Omega.{arith}
 use mathlib.Core.Path.{_≡_, refl, sym, _∙_, ap}
 use mathlib.Core.Bool.{true, false}
 use mathlib.Core.List.{List, [], _∷_, _++_}
-use lib.ListN.{length, take, drop, length-drop}
-use lib.Seq.{take-all}
-use borrow.Author.Tests.{ltb-true, eq-eqb, ne-eqb, le-leb, lt-leb}
+use lib.ListN.{length, drop}
+use borrow.Author.Tests.{ne-eqb, le-leb, lt-leb}
 use Rattle.bits.specs.Bits.{bitsOf}
 use Rattle.scrambler.specs.declared.Register.{Register}
-use Rattle.scrambler.specs.declared.Direction.the-variants.{Unscramble}
-use Rattle.scrambler.proofs.Parts.{length-answer}
 use Rattle.satellites.specs.declared.Satellite.{Satellite}
 use Rattle.satellites.specs.declared.Known.the-variants.{Is, Unknown}
-use Rattle.satellites.specs.Satellites.{typeByteAt}
-use Rattle.layouts.specs.Rules.{every}
-use Rattle.layouts.specs.Layouts.{total, carries, layoutOf}
-use Rattle.layouts.proofs.Entries.{tiles-body, widths-allowed, size-most}
+use Rattle.layouts.specs.Layouts.{layoutOf}
+use Rattle.layouts.proofs.Entries.{widths-allowed}
 use Rattle.bodies.specs.Bodies.{told, filled, valuesFrom, widthsIn}
 use Rattle.bodies.proofs.Laws.{length-told, filled-enough, widths-in, values-told}
 use Rattle.frames.specs.declared.Reading.{Reading}
-use Rattle.frames.specs.Tests.{Test, refusal, AllHold}
-use Rattle.frames.specs.Frames.{frameLength, fromTypeByte, clearBody, bodyIn, typeOf, entryIn, valuesOf}
-use Rattle.frames.specs.Reading.{checksumRight, frontTests, lengthTest, roomTest, checksumTest, readingTests}
+use Rattle.frames.specs.Tests.{refusal}
+use Rattle.frames.specs.Frames.{fromTypeByte, clearBody, typeOf, entryIn, valuesOf}
+use Rattle.frames.specs.Reading.{checksumRight, wholeTests, roomTest, checksumTest, readingTests}
 use Rattle.frames.specs.Reading.{acceptedReading, refusedReading, reading, roomAfter, toldTo}
-use Rattle.frames.proofs.Tests.{goes, stops, none-left, Numbered, all-hold, behind-held, behind-failed}
-use Rattle.frames.proofs.Parts.{length-body}
-use Rattle.frames.proofs.Assembled.{three-least}
+use Rattle.frames.proofs.Tests.{goes, stops, none-left, behind-held, behind-failed}
+use Rattle.frames.proofs.Fronts.{whole-held, is-carried, clear-tiled}
 
 pub unknown-refused : (r : Register) (frame room : List ℕ)
     → (refusedReading 1 ≡ reading r Unknown frame room) × (room ≡ roomAfter r Unknown frame room)
@@ -57,103 +51,49 @@ module _ (r : Register) (s : Satellite) (frame room : List ℕ) where
   unfolding reading roomAfter
   accepted-with e = (rw e, rw e)
 
-  -- tests 2 to 6
-  front-fails : (k : ℕ) → refusal (frontTests s frame) ≡ k → (k ≡ 0 → ⊥) → number ≡ k
+  -- tests 2 to 7
+  pub whole-refuses : (k : ℕ) → refusal (wholeTests s frame) ≡ k → (k ≡ 0 → ⊥) → Refuses k
   unfolding readingTests
-  front-fails k e some = goes 1 true _ refl ∙ behind-failed (frontTests s frame) _ (λ z. some (sym e ∙ z)) ∙ e
+  whole-refuses k e some =
+      refused-with k (goes 1 true _ refl ∙ behind-failed (wholeTests s frame) _ (λ z. some (sym e ∙ z)) ∙ e) some
 
-  pub front-refuses : (k : ℕ) → refusal (frontTests s frame) ≡ k → (k ≡ 0 → ⊥) → Refuses k
-  front-refuses k e some = refused-with k (front-fails k e some) some
+  module _ (whole : refusal (wholeTests s frame) ≡ 0) where
+    abbrev part : List ℕ
+    part = fromTypeByte s frame
 
-  front-numbered : Numbered (frontTests s frame)
-  unfolding frontTests every
-  front-numbered = tt
-
-  module _ (front : refusal (frontTests s frame) ≡ 0) where
-    front-holds : AllHold (frontTests s frame)
-    front-holds = all-hold (frontTests s frame) front-numbered front
-
-    pub is-long : typeByteAt s < length frame
-    unfolding frontTests
-    is-long = ltb-true (typeByteAt s) (length frame) (front-holds 0 (omega arith))
-
-    is-carried : carries s (typeOf s frame) ≡ true
-    unfolding frontTests
-    is-carried = front-holds 3 (omega arith)
-
-    pub told-length : layoutOf s (typeOf s frame) .frame ≡ frameLength s (typeOf s frame)
-    told-length = rw is-carried
-
-    -- tests 7 to 9
-    abbrev rest : List Test
-    rest = lengthTest s frame ∷ roomTest s frame room ∷ checksumTest r s frame ∷ []
-
-    front-passed : number ≡ refusal rest
+    -- tests 8 and 9
+    passed-7 : number ≡ refusal (roomTest s frame room ∷ checksumTest r s frame ∷ [])
     unfolding readingTests
-    front-passed = goes 1 true _ refl ∙ behind-held (frontTests s frame) rest front-holds
+    passed-7 = goes 1 true _ refl ∙ behind-held (wholeTests s frame) _ (whole-held s frame whole)
 
-    pub refuses-7 : (length frame ≡ frameLength s (typeOf s frame) → ⊥) → Refuses 7
-    refuses-7 other =
-        refused-with 7 (front-passed ∙ stops 7 _ _ (ne-eqb (length frame) (frameLength s (typeOf s frame)) other)) (λ e. omega (arith, e))
+    pub refuses-8 : length room < length (entryIn s frame .widths) → Refuses 8
+    refuses-8 small =
+        refused-with 8 (passed-7 ∙ stops 8 _ _ (lt-leb (length (entryIn s frame .widths)) (length room) small)) (λ e. omega (arith, e))
 
-    module _ (long : length frame ≡ frameLength s (typeOf s frame)) where
-      abbrev part : List ℕ
-      part = fromTypeByte s frame
+    module _ (enough : length (entryIn s frame .widths) ≤ length room) where
+      passed-8 : number ≡ refusal (checksumTest r s frame ∷ [])
+      passed-8 = passed-7 ∙ goes 8 _ _ (le-leb (length (entryIn s frame .widths)) (length room) enough)
 
-      passed-7 : number ≡ refusal (roomTest s frame room ∷ checksumTest r s frame ∷ [])
-      passed-7 = front-passed ∙ goes 7 _ _ (eq-eqb (length frame) (frameLength s (typeOf s frame)) long)
+      pub refuses-9 : checksumRight r part ≡ false → Refuses 9
+      refuses-9 other = refused-with 9 (passed-8 ∙ stops 9 _ [] other) (λ e. omega (arith, e))
 
-      pub refuses-8 : length room < length (entryIn s frame .widths) → Refuses 8
-      refuses-8 small =
-          refused-with 8 (passed-7 ∙ stops 8 _ _ (lt-leb (length (entryIn s frame .widths)) (length room) small)) (λ e. omega (arith, e))
+      pub none-fails : checksumRight r part ≡ true → number ≡ 0
+      none-fails same = passed-8 ∙ goes 9 _ [] same ∙ none-left
 
-      part-length : length part ≡ entryIn s frame .size
-      part-length = length-drop (typeByteAt s) frame ∙ omega (arith, long)
+      -- the room, filled from the unscrambled body
+      told-room : filled (valuesFrom 0 (widthsIn (layoutOf s (typeOf s frame))) (clearBody r part)) room
+          ≡ valuesOf r s frame ++ drop (length (entryIn s frame .widths)) room
+      unfolding valuesOf
+      told-room =
+          let ws = entryIn s frame .widths in
+          let bs = bitsOf (clearBody r part) in
+          ap (λ (l : List ℕ). filled (valuesFrom 0 l (clearBody r part)) room) (widths-in s (typeOf s frame))
+          ∙ ap (λ (l : List ℕ). filled l room)
+          (values-told ws (clearBody r part) (clear-tiled s frame whole r) (widths-allowed s (typeOf s frame) (is-carried s frame whole)))
+          ∙ filled-enough (told ws bs) room (omega (arith, length-told ws bs, enough))
+          ∙ ap (λ (n : ℕ). told ws bs ++ drop n room) (length-told ws bs)
 
-      pub part-least : 3 ≤ length part
-      part-least = omega (arith, part-length, three-least s (typeOf s frame) is-carried)
-
-      pub part-most : length part ≤ 255
-      part-most = omega (arith, part-length, size-most s (typeOf s frame) is-carried)
-
-      pub lent-part : take (length frame - typeByteAt s) part ≡ part
-      lent-part = take-all (length frame - typeByteAt s) part (omega (arith, length-drop (typeByteAt s) frame))
-
-      module _ (enough : length (entryIn s frame .widths) ≤ length room) where
-        passed-8 : number ≡ refusal (checksumTest r s frame ∷ [])
-        passed-8 = passed-7 ∙ goes 8 _ _ (le-leb (length (entryIn s frame .widths)) (length room) enough)
-
-        pub refuses-9 : checksumRight r part ≡ false → Refuses 9
-        refuses-9 other = refused-with 9 (passed-8 ∙ stops 9 _ [] other) (λ e. omega (arith, e))
-
-        pub none-fails : checksumRight r part ≡ true → number ≡ 0
-        none-fails same = passed-8 ∙ goes 9 _ [] same ∙ none-left
-
-        -- the room, filled from the unscrambled body
-        clear-tiled : total (entryIn s frame .widths) ≡ 8 * length (clearBody r part)
-        unfolding clearBody
-        clear-tiled =
-            omega (
-              arith,
-              tiles-body s (typeOf s frame) is-carried,
-              length-answer Unscramble r (bodyIn part),
-              length-body part part-least,
-              part-length,
-            )
-
-        told-room : filled (valuesFrom 0 (widthsIn (layoutOf s (typeOf s frame))) (clearBody r part)) room
-            ≡ valuesOf r s frame ++ drop (length (entryIn s frame .widths)) room
-        unfolding valuesOf
-        told-room =
-            let ws = entryIn s frame .widths in
-            let bs = bitsOf (clearBody r part) in
-            ap (λ (l : List ℕ). filled (valuesFrom 0 l (clearBody r part)) room) (widths-in s (typeOf s frame))
-            ∙ ap (λ (l : List ℕ). filled l room)
-            (values-told ws (clearBody r part) clear-tiled (widths-allowed s (typeOf s frame) is-carried))
-            ∙ filled-enough (told ws bs) room (omega (arith, length-told ws bs, enough))
-            ∙ ap (λ (n : ℕ). told ws bs ++ drop n room) (length-told ws bs)
-
-        pub accepts : checksumRight r part ≡ true
-            → (acceptedReading s frame ≡ reading r (Is s) frame room)
-            × (toldTo true (layoutOf s (typeOf s frame)) (clearBody r part) room ≡ roomAfter r (Is s) frame room)
-        accepts same = let told = accepted-with (none-fails same) in (told .0, told-room ∙ told .1)
+      pub accepts : checksumRight r part ≡ true
+          → (acceptedReading s frame ≡ reading r (Is s) frame room)
+          × (toldTo true (layoutOf s (typeOf s frame)) (clearBody r part) room ≡ roomAfter r (Is s) frame room)
+      accepts same = let told = accepted-with (none-fails same) in (told .0, told-room ∙ told .1)

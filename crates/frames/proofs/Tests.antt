@@ -10,7 +10,7 @@ use mathlib.Core.List.{List, [], _∷_, _++_}
 use mir.Facts.{and-yes}
 use lib.Dec.{T, eqb, ltb, ltb→lt}
 use lib.ListN.{length, getD}
-use borrow.Author.Tests.{eqb-true, eq-eqb}
+use borrow.Author.Tests.{eqb-true, eqb-false, eq-eqb}
 use Rattle.layouts.specs.Rules.{every}
 use Rattle.frames.specs.Tests.{Test, test, refusal, FirstFails, AllHold, same}
 
@@ -65,6 +65,14 @@ behind-failed (t ∷ ts) us some = go (t .holds) some (behind-failed ts us)
         → cond b (refusal (ts ++ us)) (t .number) ≡ cond b (refusal ts) (t .number)
     go true some rest = rest some
     go false some rest = refl
+
+-- and where none fails, none of those ahead does
+pub ahead-held : (ts us : List Test) → refusal (ts ++ us) ≡ 0 → refusal ts ≡ 0
+ahead-held ts us e = go (eqb (refusal ts) 0) refl
+  where
+    go : (b : Bool) → eqb (refusal ts) 0 ≡ b → refusal ts ≡ 0
+    go true f = eqb-true (refusal ts) 0 f
+    go false f = sym (behind-failed ts us (eqb-false (refusal ts) 0 f)) ∙ e
 
 -- ---- the number that is answered is that of the first test that fails
 

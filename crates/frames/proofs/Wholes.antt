@@ -2,31 +2,67 @@
 -- Assumes nothing.
 use Prim.Native.Nat.{ℕ, _+_, _-_}
 use native.Mathlib.Omega.{arith}
-use mathlib.Core.Path.{_≡_, refl, sym, _∙_, ap, ap₂}
-use mathlib.Core.Bool.{Bool, true, false, cond}
+use mathlib.Core.Path.{_≡_, sym, _∙_, ap, ap₂}
+use mathlib.Core.Bool.{Bool, true, cond}
 use mathlib.Core.List.{List, [], _∷_, _++_, append-assoc}
-use lib.ListN.{length, getD, take, drop, length-append, length-drop, length-replicate, List·getD-append, take-append-drop}
-use lib.Seq.{take-at, drop-at, take-add, drop-cons, getD-append-add}
+use lib.ListN.{length, getD, take, drop, length-append, length-replicate, List·getD-append, take-append-drop}
+use lib.Seq.{take-at, drop-at, getD-append-add}
+use borrow.Author.Tests.{eqb-true}
 use Rattle.bits.specs.Bits.{bitsOf, packed, Bytes}
 use Rattle.bits.proofs.Bytes.{length-bitsOf, length-packed, packed-bitsOf, bitsOf-packed, packed-bytes}
 use Rattle.bits.proofs.Fields.{drop-bytes, take-bytes}
 use Rattle.checksum.specs.Checksum.{checksum}
 use Rattle.scrambler.specs.declared.Register.{Register}
 use Rattle.scrambler.specs.declared.Direction.the-variants.{Unscramble}
-use Rattle.scrambler.proofs.Parts.{length-answer, bytes-answer}
+use Rattle.scrambler.proofs.Parts.{bytes-answer}
 use Rattle.satellites.specs.declared.Satellite.{Satellite}
 use Rattle.satellites.specs.Satellites.{trainingOf, sizeByteOf, typeByteAt}
-use Rattle.layouts.specs.Layouts.{total, carries, entryOf}
-use Rattle.layouts.proofs.Entries.{tiles-body}
+use Rattle.layouts.specs.Layouts.{carries, entryOf}
 use Rattle.bodies.specs.Bodies.{told, tiled, fitting}
 use Rattle.bodies.proofs.Laws.{length-tiled, told-tiled, tiled-told}
+use Rattle.frames.specs.Tests.{refusal}
 use Rattle.frames.specs.Frames.{sizeIn, training, sync, sizeByte, ahead, typeByte, sealed, bodyOf, frameOf, frameLength}
-use Rattle.frames.specs.Frames.{fromTypeByte, checksumIn, bodyIn, covered, clearBody, clear}
-use Rattle.frames.proofs.Fronts.{first-at}
+use Rattle.frames.specs.Frames.{fromTypeByte, checksumIn, bodyIn, covered, clearBody, clear, typeOf, entryIn, valuesOf}
+use Rattle.frames.specs.Reading.{wholeTests, checksumRight}
+use Rattle.frames.proofs.Fronts.{first-at, front-is, is-typed, part-least, clear-length, clear-tiled}
 use Rattle.frames.proofs.Preambles.{length-ahead}
-use Rattle.frames.proofs.Parts.{length-body, length-sealed}
+use Rattle.frames.proofs.Parts.{length-sealed}
 use Rattle.frames.proofs.Assembled.{three-least, size-least}
 use Rattle.frames.proofs.Seals.{sealed-checksum, sealed-first, sealed-clear, clear-sealed}
+
+-- ---- a frame whose parts are right
+
+module _ (r : Register) (s : Satellite) (frame : List ℕ) (whole : refusal (wholeTests s frame) ≡ 0)
+    (right : checksumRight r (fromTypeByte s frame) ≡ true) (b : Bytes frame) where
+  abbrev part : List ℕ
+  part = fromTypeByte s frame
+
+  -- the body that its values make
+  clear-bytes : Bytes (clearBody r part)
+  unfolding clearBody
+  clear-bytes =
+      bytes-answer Unscramble r (bodyIn part)
+      (drop-bytes 1 (covered part) (take-bytes (length part - 2) part (drop-bytes (typeByteAt s) frame b)))
+
+  body-again : bodyOf (entryIn s frame) (valuesOf r s frame) ≡ clearBody r part
+  unfolding valuesOf
+  body-again =
+      let body = clearBody r part in
+      let ws = entryIn s frame .widths in
+      let bytes : entryIn s frame .size - 3 ≡ length body = omega (arith, clear-length s frame whole r) in
+      ap₂ packed bytes (tiled-told ws (bitsOf body) (length-bitsOf body ∙ sym (clear-tiled s frame whole r)))
+      ∙ packed-bitsOf body clear-bytes
+
+  pub frame-again : frameOf r s (typeOf s frame) (valuesOf r s frame) ≡ frame
+  unfolding frameOf
+  frame-again =
+      ap₂ _++_ (sym (front-is s frame whole))
+      (ap₂ (sealed r) (sym (is-typed s frame whole)) body-again
+      ∙ clear-sealed r part (part-least s frame whole) (drop-bytes (typeByteAt s) frame b)
+      (eqb-true (checksumIn part) (checksum (clear r part)) right))
+      ∙ take-append-drop (typeByteAt s) frame
+
+-- ---- the frame of values that fit
 
 module _ (r : Register) (s : Satellite) (t : ℕ) (carried : carries s t ≡ true) where
   abbrev ws : List ℕ
@@ -34,70 +70,6 @@ module _ (r : Register) (s : Satellite) (t : ℕ) (carried : carries s t ≡ tru
 
   abbrev size : ℕ
   size = entryOf s t .size
-
-  -- ---- a frame whose parts are right
-
-  module _ (frame : List ℕ) (b : Bytes frame)
-      (trained : take (trainingOf s) frame ≡ training s)
-      (synced : take 2 (drop (trainingOf s) frame) ≡ sync)
-      (typed : getD frame (typeByteAt s) 0 ≡ typeByte s t)
-      (sized : sizeByteOf s ≡ true → sizeIn s frame ≡ size)
-      (long : length frame ≡ frameLength s t)
-      (right : checksumIn (fromTypeByte s frame) ≡ checksum (clear r (fromTypeByte s frame))) where
-    abbrev part : List ℕ
-    part = fromTypeByte s frame
-
-    part-length : length part ≡ size
-    part-length = length-drop (typeByteAt s) frame ∙ omega (arith, long)
-
-    -- what stands ahead of the type byte
-    preamble : take (trainingOf s + 2) frame ≡ training s ++ sync
-    preamble = take-add (trainingOf s) 2 frame ∙ ap₂ _++_ trained synced
-
-    size-byte : (has : Bool) → sizeByteOf s ≡ has
-        → take (cond has 1 0) (drop (trainingOf s + 2) frame) ≡ cond has (size ∷ []) []
-    size-byte false none = refl
-    size-byte true has =
-        let at : typeByteAt s ≡ trainingOf s + 2 + 1 = ap (λ (b : Bool). trainingOf s + 2 + cond b 1 0) has in
-        let ahead-of : typeByteAt s - 1 ≡ trainingOf s + 2 = omega (arith, at) in
-        ap (take 1) (drop-cons frame (trainingOf s + 2) 0 (omega (arith, long, at)))
-        ∙ ap (λ (x : ℕ). x ∷ []) (ap (λ (k : ℕ). getD frame k 0) (sym ahead-of) ∙ sized has)
-
-    is-ahead : take (typeByteAt s) frame ≡ ahead s size
-    is-ahead =
-        take-add (trainingOf s + 2) (cond (sizeByteOf s) 1 0) frame
-        ∙ ap₂ _++_ preamble (size-byte (sizeByteOf s) refl)
-        ∙ append-assoc (training s) sync (sizeByte s size)
-
-    -- the body that its values make
-    clear-length : length (clearBody r part) + 3 ≡ size
-    unfolding clearBody
-    clear-length =
-        ap (λ (n : ℕ). n + 3) (length-answer Unscramble r (bodyIn part))
-        ∙ length-body part (omega (arith, part-length, three-least s t carried)) ∙ part-length
-
-    clear-bytes : Bytes (clearBody r part)
-    unfolding clearBody
-    clear-bytes =
-        bytes-answer Unscramble r (bodyIn part)
-        (drop-bytes 1 (covered part) (take-bytes (length part - 2) part (drop-bytes (typeByteAt s) frame b)))
-
-    body-again : bodyOf (entryOf s t) (told ws (bitsOf (clearBody r part))) ≡ clearBody r part
-    body-again =
-        let body = clearBody r part in
-        let bytes : size - 3 ≡ length body = omega (arith, clear-length) in
-        let all : length (bitsOf body) ≡ total ws = length-bitsOf body ∙ omega (arith, clear-length, tiles-body s t carried) in
-        ap₂ packed bytes (tiled-told ws (bitsOf body) all) ∙ packed-bitsOf body clear-bytes
-
-    pub frame-again : frameOf r s t (told ws (bitsOf (clearBody r part))) ≡ frame
-    unfolding frameOf
-    frame-again =
-        ap₂ _++_ (sym is-ahead)
-        (ap₂ (sealed r) (sym (first-at (typeByteAt s) frame ∙ typed)) body-again
-        ∙ clear-sealed r part (omega (arith, part-length, three-least s t carried)) (drop-bytes (typeByteAt s) frame b) right)
-        ∙ take-append-drop (typeByteAt s) frame
-
-  -- ---- the frame of values that fit
 
   module _ (values : List ℕ) where
     abbrev body : List ℕ

@@ -12,7 +12,7 @@ use borrow.Author.Tests.{eq-eqb, ne-eqb, le-leb, lt-leb}
 use Rattle.scrambler.specs.declared.Register.{Register}
 use Rattle.satellites.specs.declared.Satellite.{Satellite}
 use Rattle.satellites.specs.declared.Known.the-variants.{Is, Unknown}
-use Rattle.layouts.specs.Layouts.{carries, entryOf, layoutOf}
+use Rattle.layouts.specs.Layouts.{carries, entryOf}
 use Rattle.bodies.specs.Bodies.{fitting}
 use Rattle.frames.specs.declared.Writing.{Writing}
 use Rattle.frames.specs.Tests.{test, refusal}
@@ -59,9 +59,6 @@ module _ (r : Register) (s : Satellite) (t : ℕ) (values output : List ℕ) whe
   refuses-5 other = refused-with 5 (goes 1 true _ refl ∙ stops 5 _ _ other) (λ e. omega (arith, e))
 
   module _ (carried : carries s t ≡ true) where
-    pub told-length : layoutOf s t .frame ≡ frameLength s t
-    told-length = rw carried
-
     pub refuses-10 : (length values ≡ count → ⊥) → Refuses 10
     unfolding writingTests
     refuses-10 other =

@@ -2,3 +2,4 @@ pub mod Tests
 pub mod Frames
 pub mod Reading
 pub mod Writing
+pub mod Editing

@@ -38,9 +38,9 @@ frontTests s frame =
     ∷ test 6 (not (sizeByteOf s) || eqb (sizeIn s frame) (entryIn s frame .size))
     ∷ []
 
--- "buffer length is not the frame's length"
-abbrev pub lengthTest : Satellite → List ℕ → Test
-lengthTest s frame = test 7 (eqb (length frame) (frameLength s (typeOf s frame)))
+-- 2 to 7, on a whole frame: those of its front, and "buffer length is not the frame's length"
+unfoldable pub wholeTests : Satellite → List ℕ → List Test
+wholeTests s frame = frontTests s frame ++ (test 7 (eqb (length frame) (frameLength s (typeOf s frame))) ∷ [])
 
 -- "room for values is less than the field count"
 abbrev pub roomTest : Satellite → List ℕ → List ℕ → Test
@@ -59,7 +59,7 @@ checksumTest r s frame = test 9 (checksumRight r (fromTypeByte s frame))
 unfoldable pub readingTests : Register → Known → List ℕ → List ℕ → List Test
 readingTests r Unknown frame room = test 1 false ∷ []
 readingTests r (Is s) frame room =
-    test 1 true ∷ (frontTests s frame ++ (lengthTest s frame ∷ roomTest s frame room ∷ checksumTest r s frame ∷ []))
+    test 1 true ∷ (wholeTests s frame ++ (roomTest s frame room ∷ checksumTest r s frame ∷ []))
 
 -- "It answers the number, the type and the field count"
 abbrev pub acceptedReading : Satellite → List ℕ → Reading
@@ -81,9 +81,9 @@ roomAfter r Unknown frame room = room
 roomAfter r (Is s) frame room =
     cond (eqb (refusal (readingTests r (Is s) frame room)) 0) (valuesOf r s frame ++ drop (length (entryIn s frame .widths)) room) room
 
--- what the front of a frame tells: the first test of its own that fails, the type, and what is told of that type
-abbrev pub frontOf : Satellite → List ℕ → Front
-frontOf s frame = record { refusal = refusal (frontTests s frame); ty = typeOf s frame; layout = layoutOf s (typeOf s frame) }
+-- what the front of a frame tells: the first of some tests that fails, the type, and what is told of that type
+abbrev pub frontOf : List Test → Satellite → List ℕ → Front
+frontOf tests s frame = record { refusal = refusal tests; ty = typeOf s frame; layout = layoutOf s (typeOf s frame) }
 
 -- the room after a body, where its checksum is right
 abbrev pub toldTo : Bool → Layout → List ℕ → List ℕ → List ℕ

@@ -8,6 +8,9 @@ ghost use Rattle.frames.specs.Frames.{clear};
 ghost use Rattle.frames.specs.Reading.{checksumRight};
 use scrambler::Register;
 
+// A size byte can hold the length of any part from type byte to checksum.
+pub(crate) const MOST_BYTES: usize = 255;
+
 // Copies what was sent from type byte to checksum, unscrambles the copy's body, and tells whether the checksum is right.
 pub(crate) fn unscrambled(sent: &[u8], copy: &mut [u8]) -> bool
     requires { ⌜ 3 ≤ length (now sent) ⌝ }

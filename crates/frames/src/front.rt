@@ -1,9 +1,9 @@
-// Tests 2 to 6: what the front of a frame tells, up to its type byte.
+// Tests 2 to 7: what the front of a frame tells, up to its type byte, and the length that a frame of that type has.
 ghost use mathlib.Core.Path.{_≡_};
 ghost use Rattle.layouts.specs.Layouts.{carries};
 ghost use Rattle.frames.specs.Tests.{refusal};
 ghost use Rattle.frames.specs.Frames.{typeOf, entryIn};
-ghost use Rattle.frames.specs.Reading.{frontTests, frontOf};
+ghost use Rattle.frames.specs.Reading.{frontTests, wholeTests, frontOf};
 use crate::preamble;
 use crate::refusal;
 use layouts::Layout;
@@ -16,8 +16,28 @@ pub(crate) struct Front {
     pub layout: Layout,
 }
 
-pub(crate) fn of(satellite: Satellite, frame: &[u8]) -> Front
-    ensures { λ r. ⌜ r ≡ frontOf satellite (now (frame .entry)) ⌝ }
+// Tests 2 to 7.
+pub(crate) fn whole(satellite: Satellite, frame: &[u8]) -> Front
+    ensures { λ r. ⌜ r ≡ frontOf (wholeTests satellite (now (frame .entry))) satellite (now (frame .entry)) ⌝ }
+{
+    let front = of(satellite, frame);
+    let number = front.refusal;
+    let layout = front.layout;
+    if number == refusal::ACCEPTED {
+        if frame.len() != layout.frame {
+            return Front {
+                refusal: refusal::LENGTH,
+                ty: front.ty,
+                layout,
+            };
+        }
+    }
+    front
+}
+
+// Tests 2 to 6.
+fn of(satellite: Satellite, frame: &[u8]) -> Front
+    ensures { λ r. ⌜ r ≡ frontOf (frontTests satellite (now (frame .entry))) satellite (now (frame .entry)) ⌝ }
 {
     let ty = type_sent(satellite, frame);
     let layout = layouts::of(satellite, ty);

@@ -1,8 +1,9 @@
-// Reading and writing whole frames (01, "What is refused, and in which order"; FORMAT 3, 7 and 8).
+// Reading, writing and editing whole frames (01, "What is refused, and in which order"; FORMAT 3, 7 and 8).
 //
 // Each call names the satellite by its number, answers for all input, and keeps nothing. What it cannot accept it refuses
-// with the paper's number, and a refused call leaves the room, or the output, as it was.
+// with the paper's number, and a refused call leaves the room, the output or the frame as it was.
 mod clear;
+mod editor;
 mod front;
 mod preamble;
 mod reader;
@@ -15,6 +16,7 @@ ghost use Rattle.scrambler.specs.Scrambler.{restarted};
 ghost use Rattle.satellites.specs.Satellites.{known};
 ghost use Rattle.frames.specs.Reading.{reading, roomAfter};
 ghost use Rattle.frames.specs.Writing.{writing, outputAfter};
+ghost use Rattle.frames.specs.Editing.{editing, frameAfter};
 use satellites::Known;
 use satellites::Satellite;
 
@@ -25,8 +27,8 @@ pub struct Reading {
     pub count: usize,
 }
 
-// What writing answers: the refusal's number, and of an accepted call the frame's length; on refusal 11, the lowest field
-// that its value does not fit.
+// What writing and editing answer: the refusal's number, and of an accepted call the frame's length; on refusal 11, the field
+// that its value does not fit, in writing the lowest.
 pub struct Writing {
     pub refusal: u32,
     pub answer: usize,
@@ -50,6 +52,17 @@ pub fn write(satellite: u32, ty: u32, values: &[u32], output: &mut [u8]) -> Writ
 {
     match Satellite::from_number(satellite) {
         Known::Is(named) => writer::write(named, ty, values, output),
-        Known::Unknown => writer::refused(refusal::SATELLITE),
+        Known::Unknown => writer::refused(refusal::SATELLITE, 0),
+    }
+}
+
+// Edits one field of a frame that this satellite sent: the frame with that field alone replaced takes the old one's place.
+pub fn edit(satellite: u32, frame: &mut [u8], field: usize, value: u32) -> Writing
+    ensures { λ r. ⌜ r ≡ editing restarted (known satellite) (now (frame .entry)) field value ⌝ }
+    ensures { λ _. ⌜ now (frame .exit) ≡ frameAfter restarted (known satellite) (now (frame .entry)) field value ⌝ }
+{
+    match Satellite::from_number(satellite) {
+        Known::Is(named) => editor::edit(named, frame, field, value),
+        Known::Unknown => writer::refused(refusal::SATELLITE, 0),
     }
 }

@@ -13,9 +13,6 @@ use crate::refusal;
 use layouts::Layout;
 use satellites::Satellite;
 
-// A size byte can hold the length of any part from type byte to checksum.
-const MOST_BYTES: usize = 255;
-
 pub(crate) fn refused(number: u32) -> Reading
     ensures { λ r. ⌜ r ≡ refusedReading number ⌝ }
 {
@@ -30,15 +27,12 @@ pub(crate) fn read(satellite: Satellite, frame: &[u8], room: &mut [u32]) -> Read
     ensures { λ r. ⌜ r ≡ reading restarted (Is satellite) (now (frame .entry)) (now (room .entry)) ⌝ }
     ensures { λ _. ⌜ now (room .exit) ≡ roomAfter restarted (Is satellite) (now (frame .entry)) (now (room .entry)) ⌝ }
 {
-    let front = front::of(satellite, frame);
+    let front = front::whole(satellite, frame);
     let number = front.refusal;
     if number != refusal::ACCEPTED {
         return refused(number);
     }
     let layout = front.layout;
-    if frame.len() != layout.frame {
-        return refused(refusal::LENGTH);
-    }
     if room.len() < layout.fields {
         return refused(refusal::ROOM);
     }
@@ -60,7 +54,7 @@ fn tell(layout: Layout, sent: &[u8], room: &mut [u32]) -> bool
     ensures { λ r. ⌜ r ≡ checksumRight restarted (now (sent .entry)) ⌝ }
     ensures { λ r. ⌜ now (room .exit) ≡ toldTo r layout (clearBody restarted (now (sent .entry))) (now (room .entry)) ⌝ }
 {
-    let mut copy = [0u8; MOST_BYTES];
+    let mut copy = [0u8; clear::MOST_BYTES];
     tell_from(layout, sent, room, &mut copy)
 }
 

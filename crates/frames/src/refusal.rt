@@ -37,3 +37,6 @@ pub const VALUE: u32 = 11;
 
 // Output shorter than the frame.
 pub const OUTPUT: u32 = 12;
+
+// No field of that number.
+pub const FIELD: u32 = 13;

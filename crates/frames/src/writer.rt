@@ -7,7 +7,7 @@ ghost use Rattle.scrambler.specs.Scrambler.{restarted};
 ghost use Rattle.satellites.specs.declared.Known.the-variants.{Is};
 ghost use Rattle.layouts.specs.Layouts.{carries, layoutOf};
 ghost use Rattle.frames.specs.Frames.{frameOf, frameLength};
-ghost use Rattle.frames.specs.Writing.{writing, outputAfter, sent};
+ghost use Rattle.frames.specs.Writing.{refusedWriting, writing, outputAfter, sent};
 use crate::Writing;
 use crate::preamble;
 use crate::refusal;
@@ -15,9 +15,16 @@ use crate::sealed;
 use layouts::Layout;
 use satellites::Satellite;
 
-pub(crate) fn refused(number: u32) -> Writing
-    ensures { λ r. ⌜ r ≡ record { refusal = number; answer = 0 } ⌝ }
+// A refusal answers 0, but for 11, which answers the field that its value does not fit.
+pub(crate) fn refused(number: u32, field: usize) -> Writing
+    ensures { λ r. ⌜ r ≡ refusedWriting number field ⌝ }
 {
+    if number == refusal::VALUE {
+        return Writing {
+            refusal: number,
+            answer: field,
+        };
+    }
     Writing {
         refusal: number,
         answer: 0,
@@ -31,21 +38,18 @@ pub(crate) fn write(satellite: Satellite, ty: u32, values: &[u32], output: &mut 
     let layout = layouts::of(satellite, ty);
     let carried = layout.carried;
     if !carried {
-        return refused(refusal::TYPE);
+        return refused(refusal::TYPE, 0);
     }
     if values.len() != layout.fields {
-        return refused(refusal::VALUES);
+        return refused(refusal::VALUES, 0);
     }
     let fitting = bodies::fitting(layout, values);
     if fitting != layout.fields {
-        return Writing {
-            refusal: refusal::VALUE,
-            answer: fitting,
-        };
+        return refused(refusal::VALUE, fitting);
     }
     let length = layout.frame;
     if output.len() < length {
-        return refused(refusal::OUTPUT);
+        return refused(refusal::OUTPUT, 0);
     }
     frame(satellite, ty, values, layout, &mut output[0..length]);
     Writing {

@@ -36,6 +36,10 @@ apart ws i (suc j) h = go (ltb i j) refl (apart ws i j)
         let same : i ≡ j = omega (arith, ltb-false i j e, h) in
         rw same (omega (arith, start-next ws j))
 
+-- and inside the body
+pub ends-inside : (ws : List ℕ) (k : ℕ) → k < length ws → startAt ws k + widthAt ws k ≤ total ws
+ends-inside ws k inside = omega (arith, apart ws k (length ws) inside, start-past ws (length ws) (omega arith))
+
 -- every bit lies in a field
 pub covered : (ws : List ℕ) (bit : ℕ) → bit < total ws
     → (k : ℕ) × (k < length ws) × (startAt ws k ≤ bit) × (bit < startAt ws k + widthAt ws k)

@@ -11,7 +11,7 @@ use lib.Dec.{T, leb, ltb, ltb→lt}
 use mir.Facts.{and-yes}
 use lib.ListN.{length, take, length-append, length-take, length-reverse}
 use lib.Seq.{getD-take, ext-getD}
-use Rattle.bits.specs.Bits.{_⊞_, bits, number, bitsOf, packed, Bytes}
+use Rattle.bits.specs.Bits.{_⊞_, number, bitsOf, packed, Bytes}
 use Rattle.bits.proofs.Numbers.{bits-of}
 use Rattle.bits.proofs.Bytes.{length-bitsOf, length-packed, bitsOf-append, packed-bitsOf, bitsOf-packed, packed-append, packed-bytes}
 use Rattle.scrambler.specs.declared.Direction.{Direction}
@@ -137,6 +137,26 @@ length-answer way r xs = by (allowed r)
   where
     by : (ok : Bool) → length (cond ok (partThrough way r xs) xs) ≡ length xs
     by true = length-part way r xs
+    by false = refl
+
+-- the two laws about a change, too: none ahead of it, and a difference that depends on what went in alone
+pub answer-ahead : (way : Direction) (r : Register) (k : ℕ) (xs ys : List ℕ) → take k (bitsOf xs) ≡ take k (bitsOf ys)
+    → take k (bitsOf (partAnswer way r xs)) ≡ take k (bitsOf (partAnswer way r ys))
+answer-ahead way r k xs ys e = by (allowed r)
+  where
+    by : (ok : Bool) → take k (bitsOf (cond ok (partThrough way r xs) xs)) ≡ take k (bitsOf (cond ok (partThrough way r ys) ys))
+    by true = part-ahead way r k xs ys e
+    by false = e
+
+pub answer-difference : (way : Direction) (r : Register) (xs ys : List ℕ) → length xs ≡ length ys
+    → bitsOf (partAnswer way r xs) ⊞ bitsOf (partAnswer way r ys)
+    ≡ cond (allowed r) (through way (r .near) (r .far) [] (bitsOf xs ⊞ bitsOf ys)) (bitsOf xs ⊞ bitsOf ys)
+answer-difference way r xs ys e = by (allowed r)
+  where
+    by : (ok : Bool)
+        → bitsOf (cond ok (partThrough way r xs) xs) ⊞ bitsOf (cond ok (partThrough way r ys) ys)
+        ≡ cond ok (through way (r .near) (r .far) [] (bitsOf xs ⊞ bitsOf ys)) (bitsOf xs ⊞ bitsOf ys)
+    by true = part-difference way r xs ys e
     by false = refl
 
 pub bytes-answer : (way : Direction) (r : Register) (xs : List ℕ) → Bytes xs → Bytes (partAnswer way r xs)

@@ -1,8 +1,10 @@
 // Questions about whole frames: what is lent to the call, the call, and what it answers and leaves.
 //
-// Room and output hold EE in every byte before the call, so that the answer shows what was filled and what stayed.
+// Room and output hold EE in every byte before the call, so that the answer shows what was filled and what stayed. An edited
+// frame is the question's own.
 use crate::hex;
 use crate::question::malformed;
+use frames::Writing;
 use libc::STDOUT_FILENO;
 ghost use Prim.Native.Nat.{_*_, _≤_};
 ghost use lib.ListN.{length};
@@ -92,13 +94,30 @@ fn gather(bytes: &[u8], values: &mut [u32])
     }
 }
 
-// A length, and a field's number, are far below 2^32.
 fn print_writing(satellite: u32, ty: u32, values: &[u32], output: &mut [u8]) {
     let writing = frames::write(satellite, ty, values, output);
+    print_left(writing, output);
+}
+
+// The frame is edited where it stands, behind the parameters.
+pub(crate) fn edit(data: &mut [u8]) {
+    if data.len() < 12 {
+        malformed();
+        return;
+    }
+    let satellite = bits::read_field(data, 0, 32);
+    let field = bits::read_field(data, 32, 32) as usize;
+    let value = bits::read_field(data, 64, 32);
+    let writing = frames::edit(satellite, &mut data[12..], field, value);
+    print_left(writing, &data[12..]);
+}
+
+// What writing or editing answered, and the bytes as it left them. A length, and a field's number, are far below 2^32.
+fn print_left(writing: Writing, bytes: &[u8]) {
     hex::print_number(writing.refusal, 4);
     hex::print_next((writing.answer % 0x1_0000_0000) as u32, 4);
-    if 0 < output.len() {
+    if 0 < bytes.len() {
         io::write_all(STDOUT_FILENO, b" ");
     }
-    hex::print(output);
+    hex::print(bytes);
 }

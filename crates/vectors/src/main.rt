@@ -10,10 +10,11 @@
 //     satellite NUMBER                        = NUMBER ADDRESS TRAINING SIZE TYPE_BYTE, or none   (4 bytes)
 //     read SATELLITE ROOM FRAME               = NUMBER TYPE COUNT PLACES   (4 and 2 bytes, then the frame, which may be empty)
 //     write SATELLITE TYPE OUTPUT VALUES      = NUMBER ANSWER BYTES        (4, 4 and 2 bytes, then the values, 4 bytes each)
+//     edit SATELLITE FIELD VALUE FRAME        = NUMBER ANSWER FRAME        (4 bytes each, then the frame, which may be empty)
 //
 // ROOM says how many places are lent, at most 0080, OUTPUT how many bytes, at most 0100. Before the call each place holds
-// EEEEEEEE and each byte EE; after it all of them are written, unless there are none. NUMBER is the refusal's, 0 where the
-// call is accepted.
+// EEEEEEEE and each byte EE; after it all of them are written, unless there are none. An edited frame is written as the call
+// left it, unless it is empty. NUMBER is the refusal's, 0 where the call is accepted.
 //
 // A line that is no question, or has more than 512 bytes of parameters and data, is answered '?'. Input past its first
 // 65,536 bytes is not read.

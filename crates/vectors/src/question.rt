@@ -49,6 +49,8 @@ fn ask(word: &[u8], data: &mut [u8]) {
         frame::read(data);
     } else if check::same(word, b"write") {
         frame::write(data);
+    } else if check::same(word, b"edit") {
+        frame::edit(data);
     } else {
         malformed();
     }

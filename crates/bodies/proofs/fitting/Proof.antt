@@ -44,6 +44,9 @@ value-at-requires c κs = search needs
 array-read-fits : tie.Need-array-read-fits Inv-loop μ-loop
 array-read-fits c = search needs
 
+cast-fits : tie.Need-cast-fits Inv-loop μ-loop
+cast-fits c = search needs
+
 fits-requires : tie.Need-fits-requires Inv-loop μ-loop
 fits-requires c κs = search needs
 
@@ -95,6 +98,7 @@ fitting-spec =
     returns
     value-at-requires
     array-read-fits
+    cast-fits
     fits-requires
     returns-2
     add-k

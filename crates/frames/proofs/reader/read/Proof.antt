@@ -15,16 +15,16 @@ use Rattle.satellites.specs.declared.Satellite.{Satellite}
 use Rattle.layouts.specs.declared.Layout.{Layout}
 use Rattle.frames.specs.declared.front.Front.{Front}
 use Rattle.frames.specs.Tests.{refusal}
-use Rattle.frames.specs.Frames.{frameLength, fromTypeByte, checksumIn, clearBody, clear, typeOf}
-use Rattle.frames.specs.Reading.{checksumRight, frontTests, toldTo}
-use Rattle.frames.proofs.Readings.{front-refuses, is-long, told-length, part-least, part-most, lent-part}
-use Rattle.frames.proofs.Readings.{readAs, refuses-7, refuses-8, refuses-9, accepts}
+use Rattle.frames.specs.Frames.{fromTypeByte, checksumIn, clearBody, clear, typeOf}
+use Rattle.frames.specs.Reading.{checksumRight, wholeTests, toldTo}
+use Rattle.frames.proofs.Fronts.{is-long, part-least, part-most, lent-part}
+use Rattle.frames.proofs.Readings.{readAs, whole-refuses, refuses-8, refuses-9, accepts}
 use borrow.Author.Needs.{needs}
 use Rattle.frames.proofs.reader.read.Statement.{statement}
 use Rattle.frames.proofs.reader.read.Tie as tie
 
 -- what the call is given
-module _ (c : tie.After-of) where
+module _ (c : tie.After-whole) where
   abbrev s : Satellite
   s = c .before .before .before .args .satellite
 
@@ -40,18 +40,18 @@ module _ (c : tie.After-of) where
   abbrev part : List ℕ
   part = fromTypeByte s frame
 
--- the points that the later ones come by: the front was accepted, the length was right, there was room
-abbrev by-front : tie.Else2 → tie.Else1
-by-front c = c .before .before .before
+  counts : c .whole .result .layout .fields ≡ length (entryOf s type .widths)
+  counts = ap (λ (f : Front). f .layout .fields) (c .whole .ensures)
 
-abbrev by-length : tie.Else3 → tie.Else2
-by-length c = c .before .before
+-- the points that the later ones come by: the frame was whole, there was room
+abbrev by-whole : tie.Else2 → tie.After-whole
+by-whole c = c .before .before .before .before
 
-abbrev by-room : tie.After-tell → tie.Else3
+abbrev by-room : tie.After-tell → tie.Else2
 by-room c = c .before .before .before .before
 
-of-requires : tie.Need-of-requires
-of-requires c κs = search needs
+whole-requires : tie.Need-whole-requires
+whole-requires c κs = search needs
 
 refused-requires : tie.Need-refused-requires
 refused-requires c κs = search needs
@@ -59,65 +59,41 @@ refused-requires c κs = search needs
 returns : tie.Need-returns
 returns c =
     let at = c .before .before in
-    let number = at .of .result .refusal in
-    let its = sym (ap (λ (f : Front). f .refusal) (at .of .ensures)) in
-    let told = front-refuses restarted (s at) (frame at) (room at) number its (c .before .if1 .taken) in
+    let number = at .whole .result .refusal in
+    let its = sym (ap (λ (f : Front). f .refusal) (at .whole .ensures)) in
+    let told = whole-refuses restarted (s at) (frame at) (room at) number its (c .before .if1 .taken) in
     (c .refused .ensures ∙ told .0, told .1)
 
--- the front is accepted
-passes : (c : tie.Else1) → refusal (frontTests (s (c .before)) (frame (c .before))) ≡ 0
-passes c = sym (ap (λ (f : Front). f .refusal) (c .before .of .ensures)) ∙ c .if1 .left
+-- no test of the whole frame fails
+passes : (c : tie.Else1) → refusal (wholeTests (s (c .before)) (frame (c .before))) ≡ 0
+passes c = sym (ap (λ (f : Front). f .refusal) (c .before .whole .ensures)) ∙ c .if1 .left
 
 refused-requires-2 : tie.Need-refused-requires-2
 refused-requires-2 c κs = search needs
 
--- what is told of its type
-laid : (c : tie.Else1) → c .before .of .result .layout .frame ≡ frameLength (s (c .before)) (type (c .before))
-laid c =
-    let at = c .before in
-    ap (λ (f : Front). f .layout .frame) (at .of .ensures) ∙ told-length restarted (s at) (frame at) (room at) (passes c)
-
-counts : (c : tie.Else1) → c .before .of .result .layout .fields ≡ length (entryOf (s (c .before)) (type (c .before)) .widths)
-counts c = ap (λ (f : Front). f .layout .fields) (c .before .of .ensures)
-
 returns-2 : tie.Need-returns-2
 returns-2 c =
-    let front = c .before .before .before .before in
-    let at = front .before in
-    let told = refuses-7 restarted (s at) (frame at) (room at) (passes front) (λ e. c .before .if2 .taken (e ∙ sym (laid front))) in
+    let whole = c .before .before .before .before in
+    let at = whole .before in
+    let small : length (room at) < length (entryOf (s at) (type at) .widths) = omega (arith, counts at) in
+    let told = refuses-8 restarted (s at) (frame at) (room at) (passes whole) small in
     (c .refused2 .ensures ∙ told .0, told .1)
 
--- and the length is right
-long : (c : tie.Else2) → let at = by-front c .before in length (frame at) ≡ frameLength (s at) (type at)
-long c = c .if2 .left ∙ laid (by-front c)
-
-refused-requires-3 : tie.Need-refused-requires-3
-refused-requires-3 c κs = search needs
-
-returns-3 : tie.Need-returns-3
-returns-3 c =
-    let past = c .before .before .before in
-    let front = by-front past in
-    let at = front .before in
-    let small : length (room at) < length (entryOf (s at) (type at) .widths) = omega (arith, counts front) in
-    let told = refuses-8 restarted (s at) (frame at) (room at) (passes front) (long past) small in
-    (c .refused3 .ensures ∙ told .0, told .1)
+passed : (c : tie.Else2) → refusal (wholeTests (s (by-whole c)) (frame (by-whole c))) ≡ 0
+passed c = passes (c .before .before .before)
 
 -- and there is room
-enough : (c : tie.Else3)
-    → let at = by-front (by-length c) .before in
-    length (entryOf (s at) (type at) .widths) ≤ length (room at)
-enough c = omega (arith, counts (by-front (by-length c)))
+enough : (c : tie.Else2) → let at = by-whole c in length (entryOf (s at) (type at) .widths) ≤ length (room at)
+enough c = omega (arith, counts (by-whole c))
 
 type-byte-at-requires : tie.Need-type-byte-at-requires
 type-byte-at-requires c κs = search needs
 
 -- the type byte lies inside
-within : (c : tie.After-type-byte-at) → c .type-byte-at .result ≤ length (frame (by-front (by-length (c .before)) .before))
+within : (c : tie.After-type-byte-at) → c .type-byte-at .result ≤ length (frame (by-whole (c .before)))
 within c =
-    let front = by-front (by-length (c .before)) in
-    let at = front .before in
-    omega (arith, c .type-byte-at .ensures, is-long restarted (s at) (frame at) (room at) (passes front))
+    let at = by-whole (c .before) in
+    omega (arith, c .type-byte-at .ensures, is-long (s at) (frame at) (passed (c .before)))
 
 sub-tell : tie.Need-sub-tell
 sub-tell c = within c
@@ -130,30 +106,26 @@ part-tell-end c = search needs
 
 -- what is sent from there on
 sent : (c : tie.After-type-byte-at)
-    → let at = by-front (by-length (c .before)) .before in
+    → let at = by-whole (c .before) in
     take (length (frame at) - c .type-byte-at .result) (drop (c .type-byte-at .result) (frame at)) ≡ part at
 sent c =
-    let past = by-length (c .before) in
-    let at = by-front past .before in
+    let at = by-whole (c .before) in
     ap (λ (n : ℕ). take (length (frame at) - n) (drop n (frame at))) (c .type-byte-at .ensures)
-    ∙ lent-part restarted (s at) (frame at) (room at) (passes (by-front past)) (long past)
+    ∙ lent-part (s at) (frame at) (passed (c .before))
 
 tell-requires : tie.Need-tell-requires
 tell-requires c κs =
     let its = sent (c .before .before) in
-    let past = by-length (c .before .before .before) in
-    let front = by-front past in
-    let at = front .before in (
-      rw its (part-least restarted (s at) (frame at) (room at) (passes front) (long past)),
-      rw its (part-most restarted (s at) (frame at) (room at) (passes front) (long past)),
-    )
+    let past = c .before .before .before in
+    let at = by-whole past in
+    (rw its (part-least (s at) (frame at) (passed past)), rw its (part-most (s at) (frame at) (passed past)))
 
 same-length : tie.Need-same-length
 same-length c = search needs
 
 -- test 9
 checked : (c : tie.After-tell)
-    → let at = by-front (by-length (by-room c)) .before in
+    → let at = by-whole (by-room c) in
     eqb (checksumIn (part at)) (checksum (clear restarted (part at))) ≡ c .tell .result
 checked c =
     sym
@@ -162,61 +134,57 @@ checked c =
 
 -- the room behind it
 left : (c : tie.After-tell) {right : Bool} → c .tell .result ≡ right
-    → let at = by-front (by-length (by-room c)) .before in
+    → let at = by-whole (by-room c) in
     c .tell .last .1 .1 .0 ≡ toldTo right (layoutOf (s at) (type at)) (clearBody restarted (part at)) (room at)
 left c {right} e =
-    let at = by-front (by-length (by-room c)) .before in
+    let at = by-whole (by-room c) in
     c .tell .ensures .1
     ∙ ap₂ (λ (l : Layout) (sent : List ℕ). toldTo (c .tell .result) l (clearBody restarted sent) (room at))
-    (ap (λ (f : Front). f .layout) (at .of .ensures)) (sent (c .before .before .before))
+    (ap (λ (f : Front). f .layout) (at .whole .ensures)) (sent (c .before .before .before))
     ∙ ap (λ (b : Bool). toldTo b (layoutOf (s at) (type at)) (clearBody restarted (part at)) (room at)) e
 
-returns-4 : tie.Need-returns-4
-returns-4 c =
+returns-3 : tie.Need-returns-3
+returns-3 c =
     let end = c .before .before .before in
-    let past = by-length (by-room end) in
-    let front = by-front past in
-    let at = front .before in
-    let right = checked end ∙ c .if4 .taken in
-    let told = accepts restarted (s at) (frame at) (room at) (passes front) (long past) (enough (by-room end)) right in (
-      ap₂ readAs (ap (λ (f : Front). f .ty) (at .of .ensures)) (counts front) ∙ told .0,
-      left end (c .if4 .taken) ∙ told .1,
+    let past = by-room end in
+    let at = by-whole past in
+    let right = checked end ∙ c .if3 .taken in
+    let told = accepts restarted (s at) (frame at) (room at) (passed past) (enough past) right in (
+      ap₂ readAs (ap (λ (f : Front). f .ty) (at .whole .ensures)) (counts at) ∙ told .0,
+      left end (c .if3 .taken) ∙ told .1,
     )
 
-refused-requires-4 : tie.Need-refused-requires-4
-refused-requires-4 c κs = search needs
+refused-requires-3 : tie.Need-refused-requires-3
+refused-requires-3 c κs = search needs
 
 same-length-2 : tie.Need-same-length-2
 same-length-2 c = search needs
 
-returns-5 : tie.Need-returns-5
-returns-5 c =
+returns-4 : tie.Need-returns-4
+returns-4 c =
     let end = c .before .before .before .before in
-    let past = by-length (by-room end) in
-    let front = by-front past in
-    let at = front .before in
-    let wrong = checked end ∙ c .before .if4 .left in
-    let told = refuses-9 restarted (s at) (frame at) (room at) (passes front) (long past) (enough (by-room end)) wrong in
-    (c .refused4 .ensures ∙ told .0, left end (c .before .if4 .left) ∙ told .1)
+    let past = by-room end in
+    let at = by-whole past in
+    let wrong = checked end ∙ c .before .if3 .left in
+    let told = refuses-9 restarted (s at) (frame at) (room at) (passed past) (enough past) wrong in
+    (c .refused3 .ensures ∙ told .0, left end (c .before .if3 .left) ∙ told .1)
 
 pub read-spec : {M : Type 1} → statement M
 read-spec =
     tie.close
     (tie.spec
-    of-requires
+    whole-requires
     refused-requires
     returns
     refused-requires-2
     returns-2
-    refused-requires-3
-    returns-3
     type-byte-at-requires
     sub-tell
     part-tell-start
     part-tell-end
     tell-requires
     same-length
-    returns-4
-    refused-requires-4
+    returns-3
+    refused-requires-3
     same-length-2
-    returns-5)
+    returns-4)

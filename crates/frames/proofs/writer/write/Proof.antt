@@ -13,10 +13,12 @@ use Rattle.layouts.specs.Layouts.{carries, entryOf}
 use Rattle.bodies.specs.Bodies.{fitting, widthsIn}
 use Rattle.bodies.proofs.Laws.{widths-in}
 use Rattle.frames.specs.Frames.{frameLength}
+use Rattle.frames.specs.Writing.{refusedWriting}
 use Rattle.scrambler.specs.Scrambler.{restarted}
 use Rattle.satellites.specs.declared.Satellite.{Satellite}
 use Rattle.layouts.specs.declared.Layout.{Layout}
-use Rattle.frames.proofs.Writings.{wroteAs, refuses-5, refuses-10, refuses-11, refuses-12, accepts, told-length}
+use Rattle.frames.proofs.Writings.{wroteAs, refuses-5, refuses-10, refuses-11, refuses-12, accepts}
+use Rattle.frames.proofs.Assembled.{told-length}
 use borrow.Author.Needs.{needs}
 use Rattle.frames.proofs.writer.write.Statement.{statement}
 use Rattle.frames.proofs.writer.write.Tie as tie
@@ -91,15 +93,18 @@ fits c =
     c .fitting .ensures
     ∙ ap (λ (ws : List ℕ). fitting ws (values at)) (ap widthsIn (at .of .ensures) ∙ widths-in (s at) (ty at))
 
+refused-requires-3 : tie.Need-refused-requires-3
+refused-requires-3 c κs = search needs
+
 returns-3 : tie.Need-returns-3
 returns-3 c =
-    let many = c .before .before .before in
+    let many = c .before .before .before .before in
     let carried = by-type many in
     let at = carried .before in
-    let lowest = fits (c .before .before) in
+    let lowest = fits (c .before .before .before) in
     let told = refuses-11 restarted (s at) (ty at) (values at) (output at) (is-carried carried) (as-many many)
-    (λ e. c .if3 .taken (lowest ∙ e ∙ sym (counted at))) in
-    (ap (λ (n : ℕ). record { refusal = 11; answer = n }) lowest ∙ told .0, told .1)
+    (λ e. c .before .if3 .taken (lowest ∙ e ∙ sym (counted at))) in
+    (c .refused3 .ensures ∙ ap (refusedWriting 11) lowest ∙ told .0, told .1)
 
 all-fit : (c : tie.Else3) → let at = by-type (by-count c) .before in fitting (widths at) (values at) ≡ length (widths at)
 all-fit c = sym (fits (c .before .before)) ∙ c .if3 .left ∙ counted (by-type (by-count c) .before)
@@ -112,10 +117,10 @@ its-length c =
     let carried = by-type (by-count c) in
     let at = carried .before in
     ap (λ (l : Layout). l .frame) (at .of .ensures)
-    ∙ told-length restarted (s at) (ty at) (values at) (output at) (is-carried carried)
+    ∙ told-length (s at) (ty at) (is-carried carried)
 
-refused-requires-3 : tie.Need-refused-requires-3
-refused-requires-3 c κs = search needs
+refused-requires-4 : tie.Need-refused-requires-4
+refused-requires-4 c κs = search needs
 
 returns-4 : tie.Need-returns-4
 returns-4 c =
@@ -125,7 +130,7 @@ returns-4 c =
     let at = carried .before in
     let short : length (output at) < frameLength (s at) (ty at) = omega (arith, its-length fit) in
     let told = refuses-12 restarted (s at) (ty at) (values at) (output at) (is-carried carried) (as-many many) (all-fit fit) short in
-    (c .refused3 .ensures ∙ told .0, told .1)
+    (c .refused4 .ensures ∙ told .0, told .1)
 
 sub-frame : tie.Need-sub-frame
 sub-frame c = search needs
@@ -175,8 +180,9 @@ write-spec =
     refused-requires-2
     returns-2
     fitting-requires
-    returns-3
     refused-requires-3
+    returns-3
+    refused-requires-4
     returns-4
     sub-frame
     part-frame-start

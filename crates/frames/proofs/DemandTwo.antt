@@ -1,0 +1,142 @@
+-- Demand 2, on reading and writing, as theorems. What they speak of is told at the head of DemandOne.antt. Field i starts at
+-- bit `startAt widths i` of the body; `field` is the unsigned number there.
+-- Assumes nothing.
+use Prim.Native.Nat.{ℕ, _+_, _-_, _*_, _/_, _%_, _≤_, _<_}
+use native.Mathlib.Omega.{arith}
+use mathlib.Core.Path.{_≡_, sym, _∙_, ap, subst}
+use mathlib.Core.Bool.{true}
+use mathlib.Core.List.{List, [], _∷_, _++_}
+use lib.ListN.{length, getD, take, drop, replicate}
+use Rattle.bits.specs.Bits.{field, Bytes}
+use Rattle.checksum.specs.Checksum.{checksum}
+use Rattle.scrambler.specs.declared.Register.{Register}
+use Rattle.satellites.specs.declared.Satellite.{Satellite}
+use Rattle.satellites.specs.declared.Known.the-variants.{Is}
+use Rattle.satellites.specs.Satellites.{addressOf, trainingOf, sizeByteOf, typeByteAt}
+use Rattle.satellites.proofs.Laws.{address-most}
+use Rattle.layouts.specs.Layouts.{carries, entryOf, widthAt, startAt}
+use Rattle.frames.specs.Frames.{frameOf, frameLength, clearBody, clear}
+use Rattle.frames.specs.Reading.{frontTests, wholeTests, readingTests, reading, roomAfter}
+use Rattle.frames.specs.Writing.{writing, outputAfter}
+use Rattle.frames.proofs.Fronts as fronts
+use Rattle.frames.proofs.Wholes.{its-length, its-training, its-sync, its-type-byte, its-size-byte, its-checksum}
+use Rattle.frames.proofs.Answers as answers
+use Rattle.frames.proofs.Exact as exact
+use Rattle.frames.proofs.DemandOne.{part, lastTwo, unscrambled, reading-tests}
+
+-- ---- 2. "a frame is accepted exactly when preamble, address, type, size byte where there is one, length and checksum are
+-- those of the published tables": those of type t are
+
+pub record Published (r : Register) (s : Satellite) (t : ℕ) (frame : List ℕ) : Type 0 where
+  pub training-right : take (trainingOf s) frame ≡ replicate (trainingOf s) 0xAA
+  pub sync-right : take 2 (drop (trainingOf s) frame) ≡ 0xBF ∷ 0x35 ∷ []
+  pub address-right : getD frame (typeByteAt s) 0 % 16 ≡ addressOf s
+  pub type-right : getD frame (typeByteAt s) 0 / 16 ≡ t
+  pub carried : carries s t ≡ true
+  pub size-right : sizeByteOf s ≡ true → getD frame (typeByteAt s - 1) 0 ≡ entryOf s t .size
+  pub length-right : length frame ≡ typeByteAt s + entryOf s t .size
+  -- the checksum covers type and address, one byte, and the unscrambled body
+  pub checksum-right : lastTwo s frame ≡ checksum (getD frame (typeByteAt s) 0 ∷ unscrambled r s frame)
+
+-- the type byte, found in the frame and in its part
+summed : (r : Register) (s : Satellite) (frame : List ℕ)
+    → checksum (clear r (part s frame)) ≡ checksum (getD frame (typeByteAt s) 0 ∷ unscrambled r s frame)
+unfolding clearBody
+summed r s frame = ap (λ (x : ℕ). checksum (x ∷ unscrambled r s frame)) (fronts.first-at (typeByteAt s) frame)
+
+-- the frame of any values is right
+frame-published : (r : Register) (s : Satellite) (t : ℕ) (values : List ℕ) → carries s t ≡ true → Published r s t (frameOf r s t values)
+frame-published r s t values carried =
+    let byte = its-type-byte r s t carried values in
+    let high : (t * 16 + addressOf s) / 16 ≡ t = omega (arith, address-most s) in
+    let low : (t * 16 + addressOf s) % 16 ≡ addressOf s = omega (arith, address-most s) in
+    record {
+      training-right = its-training r s t carried values;
+      sync-right = its-sync r s t carried values;
+      address-right = ap (λ (x : ℕ). x % 16) byte ∙ low;
+      type-right = ap (λ (x : ℕ). x / 16) byte ∙ high;
+      carried = carried;
+      size-right = its-size-byte r s t carried values;
+      length-right = its-length r s t carried values;
+      checksum-right = its-checksum r s t carried values ∙ summed r s (frameOf r s t values);
+    }
+
+module _ (r : Register) (s : Satellite) (frame room : List ℕ) where
+  -- whatever is right is accepted, "given room for its values"
+  pub published-accepted : (t : ℕ) → Published r s t frame → length (entryOf s t .widths) ≤ length room
+      → reading r (Is s) frame room ≡ record { refusal = 0; ty = t; count = length (entryOf s t .widths) }
+  published-accepted t p =
+      exact.right-accepted r s frame room t (p .carried) (p .training-right) (p .sync-right) (p .address-right) (p .type-right)
+      (p .size-right) (p .length-right) (p .checksum-right ∙ sym (summed r s frame))
+
+  module _ (t n : ℕ) (answer : reading r (Is s) frame room ≡ record { refusal = 0; ty = t; count = n }) where
+    -- and whatever is accepted is right
+    pub accepted-published : Published r s t frame
+    unfolding readingTests wholeTests frontTests clearBody
+    accepted-published =
+        let typed = answers.its-type r s frame room t n answer in
+        let first = fronts.first-at (typeByteAt s) frame in
+        let holds = answers.all-held r s frame room t n answer in
+        let tests = reading-tests r s frame room in
+        let three = tests .1 .1 .0 .1 .0 (holds 2 (omega arith)) in
+        let size = tests .1 .1 .1 .1 .1 .0 .1 .0 (holds 5 (omega arith)) in
+        record {
+          training-right = three .0;
+          sync-right = three .1;
+          address-right = ap (λ (x : ℕ). x % 16) (sym first) ∙ tests .1 .1 .1 .0 .1 .0 (holds 3 (omega arith));
+          type-right = ap (λ (x : ℕ). x / 16) (sym first) ∙ typed;
+          carried = ap (carries s) (sym typed) ∙ holds 4 (omega arith);
+          size-right = λ has. size has ∙ ap (λ (u : ℕ). entryOf s u .size) typed;
+          length-right = tests .1 .1 .1 .1 .1 .1 .0 .1 .0 (holds 6 (omega arith)) ∙ ap (frameLength s) typed;
+          checksum-right = tests .1 .1 .1 .1 .1 .1 .1 .1 .0 .1 .0 (holds 8 (omega arith)) ∙ summed r s frame;
+        }
+
+    -- "Its values are the table's fields", as many as the table has; "later places stay"
+    pub accepted-values : (n ≡ length (entryOf s t .widths))
+        × (((i : ℕ) → i < n
+        → getD (roomAfter r (Is s) frame room) i 0
+        ≡ field (startAt (entryOf s t .widths) i) (widthAt (entryOf s t .widths) i) (unscrambled r s frame))
+        × ((length (roomAfter r (Is s) frame room) ≡ length room) × (drop n (roomAfter r (Is s) frame room) ≡ drop n room)))
+    unfolding clearBody
+    accepted-values = (sym (answers.its-count r s frame room t n answer), exact.room-told r s frame room t n answer)
+
+    -- "Writing an accepted frame's values gives that frame again"; a lent frame holds bytes and nothing else
+    pub accepted-rewritten : Bytes frame → (output : List ℕ) → length frame ≤ length output
+        → let values = take n (roomAfter r (Is s) frame room) in
+        (writing (Is s) t values output ≡ record { refusal = 0; answer = length frame })
+        × (outputAfter r (Is s) t values output ≡ frame ++ drop (length frame) output)
+    accepted-rewritten b output fills =
+        let values = take n (roomAfter r (Is s) frame room) in
+        let made = exact.written-alike r s frame room t n answer values output (exact.as-many r s frame room t n answer)
+        (exact.all-fit r s frame room t n answer) fills in
+        (made .0, made .1 ∙ ap (λ (l : List ℕ). l ++ drop (length frame) output) (exact.frame-of-values r s frame room t n answer b))
+
+  -- so a number of 0 says that the frame is right, of the type that is answered
+  pub accepted-right : reading r (Is s) frame room .refusal ≡ 0 → Published r s (reading r (Is s) frame room .ty) frame
+  accepted-right e =
+      let a = reading r (Is s) frame room in
+      accepted-published (a .ty) (a .count) (λ i. record { refusal = e i; ty = a .ty; count = a .count })
+
+module _ (r : Register) (s : Satellite) (t n : ℕ) (values output : List ℕ)
+    (answer : writing (Is s) t values output ≡ record { refusal = 0; answer = n }) where
+  -- "It answers the length and fills that many bytes; bytes past the frame's end stay"
+  pub written : (n ≡ typeByteAt s + entryOf s t .size)
+      × (Published r s t (take n (outputAfter r (Is s) t values output))
+      × ((length (outputAfter r (Is s) t values output) ≡ length output) × (drop n (outputAfter r (Is s) t values output) ≡ drop n output)))
+  written = (
+    sym (answers.its-frame r s t values output n answer),
+    (
+      subst (Published r s t) (sym (exact.output-front r s t n values output answer))
+          (frame-published r s t values (exact.was-carried r s t n values output answer)),
+      (exact.output-length r s t n values output answer, exact.output-behind r s t n values output answer),
+    ),
+  )
+
+  -- "and reading a written frame gives the values back"
+  pub written-reread : (room : List ℕ) → length values ≤ length room
+      → let frame = take n (outputAfter r (Is s) t values output) in
+      (reading r (Is s) frame room ≡ record { refusal = 0; ty = t; count = length values })
+      × (roomAfter r (Is s) frame room ≡ values ++ drop (length values) room)
+  written-reread room enough =
+      exact.reread r s t n values output answer room enough
+      (published-accepted r s (frameOf r s t values) room t (frame-published r s t values (exact.was-carried r s t n values output answer)))

@@ -1,0 +1,63 @@
+-- Editing one field (01, "What is refused, and in which order"; FORMAT 7 and 8): the tests in their order, the answer, and the
+-- frame.
+use Prim.Native.Nat.{ℕ, _^_}
+use mathlib.Core.Bool.{true, false, cond}
+use mathlib.Core.List.{List, [], _∷_, _++_}
+use lib.ListN.{length, getD, set}
+use lib.Dec.{eqb, ltb}
+use Rattle.bits.specs.Bits.{replacedAnswer}
+use Rattle.scrambler.specs.declared.Register.{Register}
+use Rattle.satellites.specs.declared.Satellite.{Satellite}
+use Rattle.satellites.specs.declared.Known.{Known}
+use Rattle.satellites.specs.declared.Known.the-variants.{Is, Unknown}
+use Rattle.layouts.specs.declared.Layout.{Layout}
+use Rattle.layouts.specs.Layouts.{widthAt, startAt}
+use Rattle.frames.specs.declared.Writing.{Writing}
+use Rattle.frames.specs.Tests.{Test, test, refusal}
+use Rattle.frames.specs.Frames.{sealed, frameOf, clearBody, typeOf, entryIn, valuesOf}
+use Rattle.frames.specs.Reading.{wholeTests, checksumRight, checksumTest}
+use Rattle.frames.specs.Writing.{acceptedWriting, refusedWriting}
+
+-- "Editing (satellite, frame, field, value) tests 1 to 7, 9, 13, 11"
+unfoldable pub editingTests : Register → Known → List ℕ → ℕ → ℕ → List Test
+editingTests r Unknown frame k v = test 1 false ∷ []
+editingTests r (Is s) frame k v =
+    test 1 true
+    ∷ (wholeTests s frame
+    ++ (checksumTest r s frame
+    -- "no field of that number"
+    ∷ test 13 (ltb k (length (entryIn s frame .widths)))
+    -- "a value does not fit its field"
+    ∷ test 11 (ltb v (2 ^ widthAt (entryIn s frame .widths) k))
+    ∷ []))
+
+-- "It answers the length; a refusal answers 0, and 11 the field's number"
+unfoldable pub editing : Register → Known → List ℕ → ℕ → ℕ → Writing
+editing r Unknown frame k v = refusedWriting (refusal (editingTests r Unknown frame k v)) k
+editing r (Is s) frame k v =
+    let number = refusal (editingTests r (Is s) frame k v) in
+    cond (eqb number 0) (acceptedWriting s (typeOf s frame)) (refusedWriting number k)
+
+-- "The edited frame": the one of its values, written afresh with that field alone replaced
+abbrev pub edited : Register → Satellite → List ℕ → ℕ → ℕ → List ℕ
+edited r s frame k v = frameOf r s (typeOf s frame) (set (valuesOf r s frame) k v)
+
+-- "replaces the old one in the same lent buffer, which it fills"
+unfoldable pub frameAfter : Register → Known → List ℕ → ℕ → ℕ → List ℕ
+frameAfter r Unknown frame k v = frame
+frameAfter r (Is s) frame k v = cond (eqb (refusal (editingTests r (Is s) frame k v)) 0) (edited r s frame k v) frame
+
+-- 13 and 11, for any layout; and with 9 ahead, on what lies from type byte to checksum
+abbrev pub fieldTests : Layout → ℕ → ℕ → List Test
+fieldTests layout k v = test 13 (ltb k (layout .fields)) ∷ test 11 (ltb v (2 ^ widthAt (layout .widths) k)) ∷ []
+
+abbrev pub partTests : Register → Layout → List ℕ → ℕ → ℕ → List Test
+partTests r layout part k v = test 9 (checksumRight r part) ∷ fieldTests layout k v
+
+-- and that part with the field of its unscrambled body replaced
+abbrev pub editedPart : Register → Layout → List ℕ → ℕ → ℕ → List ℕ
+editedPart r layout part k v =
+    sealed r (getD part 0 0) (replacedAnswer (startAt (layout .widths) k) (widthAt (layout .widths) k) v (clearBody r part))
+
+abbrev pub partAfter : Register → Layout → List ℕ → ℕ → ℕ → List ℕ
+partAfter r layout part k v = cond (eqb (refusal (partTests r layout part k v)) 0) (editedPart r layout part k v) part

@@ -1,0 +1,51 @@
+-- `printed_edits::main` ends.
+-- Assumes nothing.
+use Prim.Native.Nat.{_-_, _≤_}
+use borrow.Author.Needs.{needs}
+use Rattle.printed_edits.proofs.main.Statement.{statement}
+use Rattle.printed_edits.proofs.main.Tie as tie
+
+abbrev Inv-loop : tie.InvT-loop
+Inv-loop place₀ place-end place = place ≤ place-end
+
+abbrev μ-loop : tie.MeasureT-loop
+μ-loop place₀ place-end place = place-end - place
+
+count-requires : tie.Need-count-requires Inv-loop μ-loop
+count-requires c κs = search needs
+
+mul-place-end : tie.Need-mul-place-end Inv-loop μ-loop
+mul-place-end c = search needs
+
+loop-holds : tie.Need-loop-holds Inv-loop μ-loop
+loop-holds c = search needs
+
+print-type-requires : tie.Need-print-type-requires Inv-loop μ-loop
+print-type-requires c κs = search needs
+
+add-place : tie.Need-add-place Inv-loop μ-loop
+add-place c = search needs
+
+loop-less : tie.Need-loop-less Inv-loop μ-loop
+loop-less c = search needs
+
+loop-again : tie.Need-loop-again Inv-loop μ-loop
+loop-again c = search needs
+
+returns : tie.Need-returns Inv-loop μ-loop
+returns c = search needs
+
+pub main-spec : {M : Type 1} → statement M
+main-spec =
+    tie.close
+    (tie.spec
+    Inv-loop
+    μ-loop
+    count-requires
+    mul-place-end
+    loop-holds
+    print-type-requires
+    add-place
+    loop-less
+    loop-again
+    returns)
