@@ -1,11 +1,8 @@
 //! Whole frames, read, written and edited, from 01, "From antenna order to
 //! bytes" and "What is refused, and in which order".
 //!
-//! It was written from 01 and from docs/FORMAT.md, with docs/DECISIONS.md,
-//! docs/EXAMPLES.md and README.md at hand, without sight of the crates' code.
-//! Editing was added later by another hand, from 01, docs/FORMAT.md and a list
-//! of points that can be read two ways, with docs/DECISIONS.md, a part of
-//! docs/EXAMPLES.md and the questions and answers of `vectors` at hand, again
+//! It was written from 01 and from docs/FORMAT.md, with the other documents of
+//! docs, README.md and, for editing, the stored questions and answers at hand,
 //! without sight of the crates' code.
 //!
 //! A call makes its tests one after the other in the order of the paper and

@@ -1,4 +1,4 @@
--- What an answer tells: which test failed, or that none did, and what was left in the room or the output.
+-- What an answer tells: which test failed, or that none did, and what was left in the room, the output or the frame.
 -- Assumes nothing.
 use Prim.Native.Nat.{ℕ, zero, suc, _^_, _≤_, _<_}
 use native.Mathlib.Omega.{arith}

@@ -1,7 +1,7 @@
 -- Demand 1, on every call that reads, writes or edits a frame, as theorems. They speak of the definitions that the contracts
 -- cite: `read` answers `reading` and leaves `roomAfter`, `write` answers `writing` and leaves `outputAfter`, `edit` answers
--- `editing` and leaves `frameAfter`, of what the satellite's number names (`known`) and of what the call was given. r is the
--- register that the scrambler starts from; the contracts give `restarted`, and all of this holds for every r.
+-- `editing` and leaves `frameAfter`, of what the satellite's number names (`known`) and of what the call was given; Contracts.antt
+-- shows that. r is the register that the scrambler starts from; the contracts give `restarted`, and all of this holds for every r.
 --
 -- "Every call .. keeps nothing from the call before": what is answered and left are functions of the call's arguments, and
 -- `Determined` shows that the contracts allow nothing else. "Answers for all input": the contracts ask for nothing.

@@ -5,11 +5,12 @@
 -- Assumes nothing.
 use Prim.Native.Nat.{ℕ, _+_, _*_, _^_, _≤_, _<_}
 use native.Mathlib.Omega.{arith}
-use mathlib.Core.Path.{_≡_, sym, _∙_, ap, ap₂, subst}
+use mathlib.Core.Path.{_≡_, refl, sym, _∙_, ap, ap₂, subst}
 use mathlib.Core.Bool.{Bool, true}
 use mathlib.Core.List.{List, _++_}
 use lib.ListN.{length, getD, take, drop, set, length-set}
 use lib.Seq.{set-getD, getD-take, take-at}
+use borrow.Author.Tests.{ltb-true}
 use Rattle.bits.specs.Bits.{_⊞_, bits, bitsOf, Bytes}
 use Rattle.scrambler.specs.declared.Register.{Register}
 use Rattle.satellites.specs.declared.Satellite.{Satellite}
@@ -20,13 +21,16 @@ use Rattle.bodies.specs.Bodies.{told}
 use Rattle.bodies.proofs.Laws.{fits-exactly}
 use Rattle.bodies.proofs.Changes.{fitting-set}
 use Rattle.frames.specs.Frames.{frameOf, fromTypeByte, clearBody, typeOf, valuesOf}
+use Rattle.frames.specs.declared.Reading.{Reading}
 use Rattle.frames.specs.Tests.{refusal}
-use Rattle.frames.specs.Reading.{wholeTests, reading, roomAfter}
+use Rattle.frames.specs.Reading.{frontTests, wholeTests, reading, roomAfter}
 use Rattle.frames.specs.Writing.{writing, outputAfter}
 use Rattle.frames.specs.Editing.{editingTests, editing, frameAfter}
 use Rattle.frames.proofs.Answers as answers
 use Rattle.frames.proofs.Exact as exact
 use Rattle.frames.proofs.Edits as edits
+use Rattle.frames.proofs.Tests.{goes, all-hold, ahead-held}
+use Rattle.frames.proofs.Readings as readings
 use Rattle.frames.proofs.Readings.{readAs}
 use Rattle.frames.proofs.Writings.{wroteAs}
 use Rattle.frames.proofs.Fronts as fronts
@@ -41,10 +45,9 @@ differ w old new = bits w old ⊞ bits w new
 abbrev pub flips : List ℕ → List ℕ → List Bool
 flips frame edited = bitsOf frame ⊞ bitsOf edited
 
--- "Take an accepted frame, one of its fields"; a lent frame holds bytes and nothing else
+-- "Take an accepted frame, one of its fields"
 module _ (r : Register) (s : Satellite) (t n : ℕ) (frame room : List ℕ)
-    (answer : reading r (Is s) frame room ≡ record { refusal = 0; ty = t; count = n }) (bytes : Bytes frame)
-    (k : ℕ) (inside : k < n) where
+    (answer : reading r (Is s) frame room ≡ record { refusal = 0; ty = t; count = n }) (k : ℕ) (inside : k < n) where
   abbrev ws : List ℕ
   ws = entryOf s t .widths
 
@@ -79,8 +82,9 @@ module _ (r : Register) (s : Satellite) (t n : ℕ) (frame room : List ℕ)
   carried : carries s t ≡ true
   carried = exact.its-carried r s frame room t n answer
 
-  of-values : frameOf r s t values ≡ frame
-  of-values = exact.frame-of-values r s frame room t n answer bytes
+  -- a lent frame holds bytes and nothing else
+  of-values : Bytes frame → frameOf r s t values ≡ frame
+  of-values = exact.frame-of-values r s frame room t n answer
 
   -- "and a new value that fits"
   module _ (v : ℕ) (fits : v < 2 ^ widthAt ws k) where
@@ -132,21 +136,22 @@ module _ (r : Register) (s : Satellite) (t n : ℕ) (frame room : List ℕ)
         )
 
     -- "All sent bits ahead of the field stay": all ahead of the body, and those of the body up to the field
-    pub ahead-stays : let ahead = 8 * (typeByteAt s + 1) + startAt ws k in
+    pub ahead-stays : Bytes frame
+        → let ahead = 8 * (typeByteAt s + 1) + startAt ws k in
         take ahead (bitsOf (frameAfter r (Is s) frame k v)) ≡ take ahead (bitsOf frame)
-    ahead-stays =
+    ahead-stays bytes =
         let up-to : List ℕ → List Bool = λ (l : List ℕ). take (8 * (typeByteAt s + 1) + startAt ws k) (bitsOf l) in
-        ap up-to edited-is ∙ edited-ahead r s t carried values k v there ∙ ap up-to of-values
+        ap up-to edited-is ∙ edited-ahead r s t carried values k v there ∙ ap up-to (of-values bytes)
 
   old-fits : old < 2 ^ widthAt ws k
   old-fits = subst (λ m. m < 2 ^ widthAt ws k) old-at (fits-exactly ws values (exact.all-fit r s frame room t n answer) k there)
 
   -- "Editing a field to the value it has leaves all bytes as they are", and is accepted
-  pub edited-same : (editing r (Is s) frame k old ≡ record { refusal = 0; answer = length frame })
-      × (frameAfter r (Is s) frame k old ≡ frame)
-  edited-same = (
+  pub edited-same : Bytes frame
+      → (editing r (Is s) frame k old ≡ record { refusal = 0; answer = length frame }) × (frameAfter r (Is s) frame k old ≡ frame)
+  edited-same bytes = (
     edit-accepted old old-fits,
-    edited-is old old-fits ∙ ap (frameOf r s t) (ap (set values k) (sym old-at) ∙ set-getD values k 0) ∙ of-values,
+    edited-is old old-fits ∙ ap (frameOf r s t) (ap (set values k) (sym old-at) ∙ set-getD values k 0) ∙ of-values bytes,
   )
 
 -- "If two accepted frames of one satellite and type have the same field edited so that old and new value differ in the same
@@ -163,14 +168,34 @@ same-bits-flip r s t k n n′ frame frame′ room room′ answer bytes answer′
     let counts = answers.its-count r s frame room t n answer in
     let inside′ : k < n′ = omega (arith, counts, answers.its-count r s frame′ room′ t n′ answer′, inside) in
     let w = widthAt (entryOf s t .widths) k in
-    ap₂ flips (sym (of-values r s t n frame room answer bytes k inside)) (edited-is r s t n frame room answer bytes k inside v fits)
-    ∙ edited-flips r s t (carried r s t n frame room answer bytes k inside)
-    (values r s t n frame room answer bytes k inside) (values r s t n′ frame′ room′ answer′ bytes′ k inside′) k v v′
-    (as-many r s t n frame room answer bytes k inside) (as-many r s t n′ frame′ room′ answer′ bytes′ k inside′)
-    (there r s t n frame room answer bytes k inside)
-    (ap (λ (x : ℕ). differ w x v) (old-at r s t n frame room answer bytes k inside)
+    ap₂ flips (sym (of-values r s t n frame room answer k inside bytes)) (edited-is r s t n frame room answer k inside v fits)
+    ∙ edited-flips r s t (carried r s t n frame room answer k inside)
+    (values r s t n frame room answer k inside) (values r s t n′ frame′ room′ answer′ k inside′) k v v′
+    (as-many r s t n frame room answer k inside) (as-many r s t n′ frame′ room′ answer′ k inside′)
+    (there r s t n frame room answer k inside)
+    (ap (λ (x : ℕ). differ w x v) (old-at r s t n frame room answer k inside)
     ∙ same
-    ∙ ap (λ (x : ℕ). differ w x v′) (sym (old-at r s t n′ frame′ room′ answer′ bytes′ k inside′)))
+    ∙ ap (λ (x : ℕ). differ w x v′) (sym (old-at r s t n′ frame′ room′ answer′ k inside′)))
     ∙ sym
-    (ap₂ flips (sym (of-values r s t n′ frame′ room′ answer′ bytes′ k inside′))
-    (edited-is r s t n′ frame′ room′ answer′ bytes′ k inside′ v′ fits′))
+    (ap₂ flips (sym (of-values r s t n′ frame′ room′ answer′ k inside′ bytes′))
+    (edited-is r s t n′ frame′ room′ answer′ k inside′ v′ fits′))
+
+-- and editing accepts no other: what it accepts reading does, given room, and it is one of the frame's fields and a value that fits
+pub accepted-only : (r : Register) (s : Satellite) (frame : List ℕ) (k v : ℕ) → editing r (Is s) frame k v .refusal ≡ 0
+    → (room : List ℕ) → length (entryOf s (typeOf s frame) .widths) ≤ length room
+    → let answer = reading r (Is s) frame room in
+    (answer .refusal ≡ 0) × ((k < answer .count) × (v < 2 ^ widthAt (entryOf s (answer .ty) .widths) k))
+unfolding editingTests wholeTests frontTests
+accepted-only r s frame k v accepted room enough =
+    let tests = editingTests r (Is s) frame k v in
+    let ws = entryOf s (typeOf s frame) .widths in
+    let none = sym (answers.editing-number r (Is s) frame k v) ∙ accepted in
+    let holds = all-hold tests (answers.editing-numbered r (Is s) frame k v) none in
+    let whole = ahead-held (wholeTests s frame) _ (sym (goes 1 true _ refl) ∙ none) in
+    let its = readings.accepted-with r s frame room (readings.none-fails r s frame room whole enough (holds 7 (omega arith))) .0 in (
+      ap (λ (a : Reading). a .refusal) (sym its),
+      (
+        subst (λ a. k < a .count) its (ltb-true k (length ws) (holds 8 (omega arith))),
+        subst (λ a. v < 2 ^ widthAt (entryOf s (a .ty) .widths) k) its (ltb-true v (2 ^ widthAt ws k) (holds 9 (omega arith))),
+      ),
+    )

@@ -15,4 +15,5 @@ mod Exact
 pub mod DemandOne
 pub mod DemandTwo
 pub mod DemandThree
+pub mod Contracts
 pub mod Determined

@@ -28,7 +28,7 @@ pub none-left : refusal [] ≡ 0
 unfolding refusal
 none-left = refl
 
--- every test has a number of its own, other than 0
+-- every test has a number other than 0
 abbrev pub Numbered : List Test → Type 0
 Numbered ts = T (every (λ t. ltb 0 (t .number)) ts)
 

@@ -3,10 +3,10 @@
 -- Assumes nothing.
 use Prim.Native.Nat.{ℕ, zero, suc, _+_, _-_, _*_, _≤_}
 use native.Mathlib.Omega.{arith}
-use mathlib.Core.Path.{_≡_, refl, sym, _∙_, ap}
+use mathlib.Core.Path.{_≡_, refl, _∙_, ap}
 use mathlib.Core.Bool.{true}
 use mathlib.Core.List.{List, [], _∷_, _++_}
-use lib.ListN.{length, getD, take, replicate}
+use lib.ListN.{length, replicate}
 use lib.Seq.{take-append-le, take-length}
 use Rattle.satellites.specs.declared.Satellite.{Satellite}
 use Rattle.layouts.specs.Layouts.{carries, entryOf, laid, layoutOf, mostFields, startAt, total, widthAt}

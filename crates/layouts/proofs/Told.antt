@@ -8,7 +8,7 @@ use lib.ListN.{length, getD, drop, replicate}
 use Rattle.satellites.specs.declared.Satellite.{Satellite}
 use Rattle.satellites.specs.Satellites.{typeByteAt}
 use Rattle.layouts.specs.declared.widths.Widths.{Widths}
-use Rattle.layouts.specs.Layouts.{mostFields, entryOf, carries, nothing, layoutOf, laid}
+use Rattle.layouts.specs.Layouts.{mostFields, entryOf, carries, layoutOf, laid}
 use Rattle.layouts.specs.Rows.{Row, says, unrolled, widthsOf}
 use Rattle.layouts.proofs.Entries.{tiles-body, size-most, fields-most, no-entry}
 

@@ -3,7 +3,6 @@
 use mathlib.Core.Path.{sym, _∙_}
 use lib.ListN.{length}
 use denote.Ref.{now}
-use Rattle.bits.specs.Bits.{field}
 use Rattle.bits.specs.Located.{Touches}
 use Rattle.bits.proofs.Places.{is-inside, asked, field-touched}
 use borrow.Author.Needs.{needs}
