@@ -26,12 +26,22 @@ use Rattle.frames.specs.Reading.{checksumRight, frontTests, wholeTests, 
 use Rattle.frames.specs.Reading.{acceptedReading, refusedReading, reading, roomAfter}
 use Rattle.frames.specs.Editing.{editingTests, editing, frameAfter}
 use Rattle.frames.specs.Writing.{writingTests, acceptedWriting, refusedWriting, writing, outputAfter}
-use Rattle.frames.proofs.Tests.{goes, ahead-held, first-fails, Numbered, all-hold}
+use Rattle.frames.proofs.Tests.{first-fails, Numbered, all-hold}
+use Rattle.frames.proofs.Fronts as fronts
 use Rattle.frames.proofs.Readings as readings
 use Rattle.frames.proofs.Readings.{readAs}
 use Rattle.frames.proofs.Writings as writings
 use Rattle.frames.proofs.Writings.{wroteAs}
 use Rattle.frames.proofs.Edits as edits
+
+-- an answer tells the number: 0 where it accepts, and where it refuses the one that it was made with
+tells-number : {A : Type 0} (told : A → ℕ) (n : ℕ) (accepted : A) (refused : ℕ → A) → told accepted ≡ 0
+    → ((m : ℕ) → told (refused m) ≡ m) → told (cond (eqb n 0) accepted (refused n)) ≡ n
+tells-number told n accepted refused none some = go (eqb n 0) refl
+  where
+    go : (b : Bool) → eqb n 0 ≡ b → told (cond b accepted (refused n)) ≡ n
+    go true e = none ∙ sym (eqb-true n 0 e)
+    go false e = some n
 
 -- ---- reading
 
@@ -44,15 +54,8 @@ pub reading-number : (r : Register) (k : Known) (frame room : List ℕ)
     → reading r k frame room .refusal ≡ refusal (readingTests r k frame room)
 unfolding reading
 reading-number r Unknown frame room = refl
-reading-number r (Is s) frame room = go (eqb number 0) refl
-  where
-    number : ℕ
-    number = refusal (readingTests r (Is s) frame room)
-
-    go : (b : Bool) → eqb number 0 ≡ b
-        → (cond b (acceptedReading s frame) (refusedReading number)) .refusal ≡ number
-    go true e = sym (eqb-true number 0 e)
-    go false e = refl
+reading-number r (Is s) frame room =
+    tells-number (λ a. a .refusal) (refusal (readingTests r (Is s) frame room)) (acceptedReading s frame) refusedReading refl (λ n. refl)
 
 -- a refusal answers type 0 and count 0 and leaves the room
 pub reading-refused : (r : Register) (k : Known) (frame room : List ℕ) (n : ℕ) → reading r k frame room .refusal ≡ n → n ≢ 0
@@ -75,7 +78,7 @@ module _ (r : Register) (s : Satellite) (frame room : List ℕ) where
     -- it is whole, and its checksum is right
     pub was-whole : refusal (wholeTests s frame) ≡ 0
     unfolding readingTests
-    was-whole = ahead-held (wholeTests s frame) _ (sym (goes 1 true _ refl) ∙ none-failed)
+    was-whole = fronts.was-whole s frame _ none-failed
 
     pub was-right : checksumRight r (fromTypeByte s frame) ≡ true
     unfolding readingTests wholeTests frontTests
@@ -106,15 +109,9 @@ pub writing-number : (k : Known) (t : ℕ) (values output : List ℕ)
     → writing k t values output .refusal ≡ refusal (writingTests k t values output)
 unfolding writing
 writing-number Unknown t values output = refl
-writing-number (Is s) t values output = go (eqb number 0) refl
-  where
-    number : ℕ
-    number = refusal (writingTests (Is s) t values output)
-
-    go : (b : Bool) → eqb number 0 ≡ b
-        → (cond b (acceptedWriting s t) (refusedWriting number (fitting (entryOf s t .widths) values))) .refusal ≡ number
-    go true e = sym (eqb-true number 0 e)
-    go false e = refl
+writing-number (Is s) t values output =
+    tells-number (λ a. a .refusal) (refusal (writingTests (Is s) t values output)) (acceptedWriting s t)
+    (λ (n : ℕ). refusedWriting n (fitting (entryOf s t .widths) values)) refl (λ n. refl)
 
 -- a refusal answers 0, or the lowest field number that does not fit, and leaves the output
 answer-of : (n lowest : ℕ) → n ≢ 11 → refusedWriting n lowest ≡ record { refusal = n; answer = 0 }
@@ -192,14 +189,9 @@ pub editing-number : (r : Register) (s : Known) (frame : List ℕ) (k v : ℕ)
     → editing r s frame k v .refusal ≡ refusal (editingTests r s frame k v)
 unfolding editing
 editing-number r Unknown frame k v = refl
-editing-number r (Is s) frame k v = go (eqb number 0) refl
-  where
-    number : ℕ
-    number = refusal (editingTests r (Is s) frame k v)
-
-    go : (b : Bool) → eqb number 0 ≡ b → (cond b (acceptedWriting s (typeOf s frame)) (refusedWriting number k)) .refusal ≡ number
-    go true e = sym (eqb-true number 0 e)
-    go false e = refl
+editing-number r (Is s) frame k v =
+    tells-number (λ a. a .refusal) (refusal (editingTests r (Is s) frame k v)) (acceptedWriting s (typeOf s frame))
+    (λ (n : ℕ). refusedWriting n k) refl (λ n. refl)
 
 -- a refusal answers 0, or the field's number, and leaves the frame
 answer-11 : (n k : ℕ) → n ≡ 11 → refusedWriting n k ≡ record { refusal = n; answer = k }

@@ -5,7 +5,7 @@
 -- Assumes nothing.
 use Prim.Native.Nat.{ℕ, _+_, _*_, _^_, _≤_, _<_}
 use native.Mathlib.Omega.{arith}
-use mathlib.Core.Path.{_≡_, refl, sym, _∙_, ap, ap₂, subst}
+use mathlib.Core.Path.{_≡_, sym, _∙_, ap, ap₂, subst}
 use mathlib.Core.Bool.{Bool, true}
 use mathlib.Core.List.{List, _++_}
 use lib.ListN.{length, getD, take, drop, set, length-set}
@@ -29,7 +29,7 @@ use Rattle.frames.specs.Editing.{editingTests, editing, frameAfter}
 use Rattle.frames.proofs.Answers as answers
 use Rattle.frames.proofs.Exact as exact
 use Rattle.frames.proofs.Edits as edits
-use Rattle.frames.proofs.Tests.{goes, all-hold, ahead-held}
+use Rattle.frames.proofs.Tests.{all-hold}
 use Rattle.frames.proofs.Readings as readings
 use Rattle.frames.proofs.Readings.{readAs}
 use Rattle.frames.proofs.Writings.{wroteAs}
@@ -191,7 +191,7 @@ accepted-only r s frame k v accepted room enough =
     let ws = entryOf s (typeOf s frame) .widths in
     let none = sym (answers.editing-number r (Is s) frame k v) ∙ accepted in
     let holds = all-hold tests (answers.editing-numbered r (Is s) frame k v) none in
-    let whole = ahead-held (wholeTests s frame) _ (sym (goes 1 true _ refl) ∙ none) in
+    let whole = fronts.was-whole s frame _ none in
     let its = readings.accepted-with r s frame room (readings.none-fails r s frame room whole enough (holds 7 (omega arith))) .0 in (
       ap (λ (a : Reading). a .refusal) (sym its),
       (

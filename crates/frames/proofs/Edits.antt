@@ -28,8 +28,8 @@ use Rattle.frames.specs.Frames.{sealed, bodyOf, frameOf, fromTypeByte, c
 use Rattle.frames.specs.Reading.{checksumRight, wholeTests}
 use Rattle.frames.specs.Writing.{acceptedWriting, refusedWriting}
 use Rattle.frames.specs.Editing.{editingTests, editing, edited, frameAfter, fieldTests, partTests, editedPart, partAfter}
-use Rattle.frames.proofs.Tests.{goes, stops, none-left, all-hold, behind-held, behind-failed}
-use Rattle.frames.proofs.Fronts.{whole-held, front-is, is-carried, is-typed, clear-length, clear-tiled}
+use Rattle.frames.proofs.Tests.{goes, stops, none-left, all-hold}
+use Rattle.frames.proofs.Fronts.{whole-fails, whole-passes, front-is, is-carried, is-typed, clear-length, clear-tiled}
 
 -- ---- a field's number and value
 
@@ -94,7 +94,7 @@ module _ (r : Register) (s : Satellite) (frame : List ℕ) (k v : ℕ) where
   pub whole-refuses : (n : ℕ) → refusal (wholeTests s frame) ≡ n → n ≢ 0 → Answers (refusedWriting n k) frame
   unfolding editingTests
   whole-refuses n e some =
-      refused-with n (goes 1 true _ refl ∙ behind-failed (wholeTests s frame) _ (λ z. some (sym e ∙ z)) ∙ e) some
+      refused-with n (whole-fails s frame _ n e some) some
 
   module _ (whole : refusal (wholeTests s frame) ≡ 0) where
     abbrev type : ℕ
@@ -116,8 +116,7 @@ module _ (r : Register) (s : Satellite) (frame : List ℕ) (k v : ℕ) where
     pub part-decides : number ≡ refusal (partTests r layout part k v)
     unfolding editingTests
     part-decides =
-        goes 1 true _ refl
-        ∙ behind-held (wholeTests s frame) _ (whole-held s frame whole)
+        whole-passes s frame _ whole
         ∙ ap
         (λ (w : ℕ). refusal (test 9 (checksumRight r part) ∷ test 13 (ltb k (length ws)) ∷ test 11 (ltb v (2 ^ w)) ∷ []))
         (sym (width-laid ws k))

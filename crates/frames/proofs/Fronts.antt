@@ -3,10 +3,10 @@
 use Prim.Native.Nat.{ℕ, _+_, _-_, _*_, _%_, _≤_, _<_}
 use Prim.{⊥}
 use native.Mathlib.Omega.{arith}
-use mathlib.Core.Path.{_≡_, sym, _∙_, ap, ap₂}
+use mathlib.Core.Path.{_≡_, refl, sym, _∙_, ap, ap₂, subst}
 use mathlib.Core.Logic.{_≢_}
 use mathlib.Core.Bool.{Bool, true, false, not, _||_}
-use mathlib.Core.List.{List, []}
+use mathlib.Core.List.{List, [], _∷_, _++_}
 use borrow.Author.Tests.{eq-eqb, ne-eqb, eqb-true, ltb-true}
 use lib.Dec.{eqb, ltb}
 use native.Mathlib.Nat.{add-zero}
@@ -20,11 +20,11 @@ use Rattle.satellites.specs.Satellites.{addressOf, trainingOf, sizeByteOf, type
 use Rattle.layouts.specs.Rules.{every}
 use Rattle.layouts.specs.Layouts.{total, carries, layoutOf}
 use Rattle.layouts.proofs.Entries.{tiles-body, size-most}
-use Rattle.frames.specs.Tests.{refusal, AllHold, Iff}
+use Rattle.frames.specs.Tests.{Test, test, refusal, AllHold, Iff}
 use Rattle.frames.specs.Frames.{training, sync, ahead, typeByte, frameLength}
 use Rattle.frames.specs.Frames.{sizeIn, fromTypeByte, addressIn, bodyIn, clearBody, typeOf, entryIn}
 use Rattle.frames.specs.Reading.{preambled, frontTests, wholeTests}
-use Rattle.frames.proofs.Tests.{stops, goes, none-left, Numbered, all-hold, behind-held, behind-failed}
+use Rattle.frames.proofs.Tests.{stops, goes, none-left, Numbered, all-hold, behind-held, behind-failed, ahead-held}
 use Rattle.frames.proofs.Parts.{length-body}
 use Rattle.frames.proofs.Preambles.{is-ahead}
 use Rattle.frames.proofs.Assembled.{three-least, told-length}
@@ -114,19 +114,34 @@ module _ (s : Satellite) (frame : List ℕ) where
         ∙ goes 7 _ [] (eq-eqb (length frame) (frameLength s (typeOf s frame)) (as-long ∙ its-frame))
         ∙ none-left
 
-  pub whole-numbered : Numbered (wholeTests s frame)
+  whole-numbered : Numbered (wholeTests s frame)
   unfolding wholeTests frontTests every
   whole-numbered = tt
+
+  -- other tests behind these, of a satellite that is named
+  module _ (us : List Test) where
+    abbrev named : List Test
+    named = test 1 true ∷ (wholeTests s frame ++ us)
+
+    pub whole-fails : (n : ℕ) → refusal (wholeTests s frame) ≡ n → n ≢ 0 → refusal named ≡ n
+    whole-fails n e some = goes 1 true _ refl ∙ behind-failed (wholeTests s frame) us (λ z. some (sym e ∙ z)) ∙ e
+
+    pub whole-passes : refusal (wholeTests s frame) ≡ 0 → refusal named ≡ refusal us
+    whole-passes e =
+        goes 1 true _ refl ∙ behind-held (wholeTests s frame) us (all-hold (wholeTests s frame) whole-numbered e)
+
+    pub was-whole : refusal named ≡ 0 → refusal (wholeTests s frame) ≡ 0
+    was-whole e = ahead-held (wholeTests s frame) us (sym (goes 1 true _ refl) ∙ e)
 
   right-preamble : Iff preamble ((take (trainingOf s) frame ≡ training s) × (take 2 (drop (trainingOf s) frame) ≡ sync))
   right-preamble = both (same-bytes (take (trainingOf s) frame) (training s)) (same-bytes (take 2 (drop (trainingOf s) frame)) sync)
 
   -- where none of them fails
   module _ (whole : refusal (wholeTests s frame) ≡ 0) where
-    pub whole-held : AllHold (wholeTests s frame)
+    whole-held : AllHold (wholeTests s frame)
     whole-held = all-hold (wholeTests s frame) whole-numbered whole
 
-    pub is-long : typeByteAt s < length frame
+    is-long : typeByteAt s < length frame
     unfolding wholeTests frontTests
     is-long = ltb-true (typeByteAt s) (length frame) (whole-held 0 (omega arith))
 
@@ -169,11 +184,23 @@ module _ (s : Satellite) (frame : List ℕ) where
     pub part-least : 3 ≤ length part
     part-least = omega (arith, part-length, three-least s (typeOf s frame) is-carried)
 
-    pub part-most : length part ≤ 255
+    part-most : length part ≤ 255
     part-most = omega (arith, part-length, size-most s (typeOf s frame) is-carried)
 
-    pub lent-part : take (length frame - typeByteAt s) part ≡ part
-    lent-part = take-all (length frame - typeByteAt s) part (omega (arith, length-drop (typeByteAt s) frame))
+    -- it is what is lent from the type byte's place on
+    module _ (n : ℕ) (place : n ≡ typeByteAt s) where
+      pub lies-inside : n ≤ length frame
+      lies-inside = omega (arith, place, is-long)
+
+      pub lent-part : take (length frame - n) (drop n frame) ≡ part
+      lent-part =
+          take-all (length frame - n) (drop n frame) (omega (arith, length-drop n frame)) ∙ ap (λ (m : ℕ). drop m frame) place
+
+      pub lent-least : 3 ≤ length (take (length frame - n) (drop n frame))
+      lent-least = subst (λ (l : List ℕ). 3 ≤ length l) (sym lent-part) part-least
+
+      pub lent-most : length (take (length frame - n) (drop n frame)) ≤ 255
+      lent-most = subst (λ (l : List ℕ). length l ≤ 255) (sym lent-part) part-most
 
     -- what stands ahead of it
     pub front-is : take (typeByteAt s) frame ≡ ahead s (entryIn s frame .size)

@@ -3,7 +3,7 @@
 use Prim.{⊥}
 use Prim.Native.Nat.{ℕ, _-_, _≤_, _<_}
 use native.Mathlib.Omega.{arith}
-use mathlib.Core.Path.{_≡_, refl, sym, _∙_, ap}
+use mathlib.Core.Path.{_≡_, refl, _∙_, ap}
 use mathlib.Core.Bool.{true, false}
 use mathlib.Core.List.{List, [], _∷_, _++_}
 use lib.ListN.{length, drop}
@@ -21,8 +21,8 @@ use Rattle.frames.specs.Tests.{refusal}
 use Rattle.frames.specs.Frames.{fromTypeByte, clearBody, typeOf, entryIn, valuesOf}
 use Rattle.frames.specs.Reading.{checksumRight, wholeTests, roomTest, checksumTest, readingTests}
 use Rattle.frames.specs.Reading.{acceptedReading, refusedReading, reading, roomAfter, toldTo}
-use Rattle.frames.proofs.Tests.{goes, stops, none-left, behind-held, behind-failed}
-use Rattle.frames.proofs.Fronts.{whole-held, is-carried, clear-tiled}
+use Rattle.frames.proofs.Tests.{goes, stops, none-left}
+use Rattle.frames.proofs.Fronts.{whole-fails, whole-passes, is-carried, clear-tiled}
 
 pub unknown-refused : (r : Register) (frame room : List ℕ)
     → (refusedReading 1 ≡ reading r Unknown frame room) × (room ≡ roomAfter r Unknown frame room)
@@ -55,7 +55,7 @@ module _ (r : Register) (s : Satellite) (frame room : List ℕ) where
   pub whole-refuses : (k : ℕ) → refusal (wholeTests s frame) ≡ k → (k ≡ 0 → ⊥) → Refuses k
   unfolding readingTests
   whole-refuses k e some =
-      refused-with k (goes 1 true _ refl ∙ behind-failed (wholeTests s frame) _ (λ z. some (sym e ∙ z)) ∙ e) some
+      refused-with k (whole-fails s frame _ k e some) some
 
   module _ (whole : refusal (wholeTests s frame) ≡ 0) where
     abbrev part : List ℕ
@@ -64,7 +64,7 @@ module _ (r : Register) (s : Satellite) (frame room : List ℕ) where
     -- tests 8 and 9
     passed-7 : number ≡ refusal (roomTest s frame room ∷ checksumTest r s frame ∷ [])
     unfolding readingTests
-    passed-7 = goes 1 true _ refl ∙ behind-held (wholeTests s frame) _ (whole-held s frame whole)
+    passed-7 = whole-passes s frame _ whole
 
     pub refuses-8 : length room < length (entryIn s frame .widths) → Refuses 8
     refuses-8 small =

@@ -1,7 +1,6 @@
 -- `frames::editor::edit` meets its contract.
 -- Assumes nothing.
 use Prim.Native.Nat.{ℕ, _-_, _≤_}
-use native.Mathlib.Omega.{arith}
 use mathlib.Core.Path.{_≡_, sym, _∙_, ap, ap₂}
 use mathlib.Core.List.{List, _++_}
 use lib.ListN.{length, take, drop}
@@ -17,7 +16,7 @@ use Rattle.frames.specs.Frames.{fromTypeByte, typeOf}
 use Rattle.frames.specs.Reading.{wholeTests}
 use Rattle.frames.specs.Editing.{partTests, partAfter}
 use Rattle.frames.proofs.Assembled.{told-length}
-use Rattle.frames.proofs.Fronts.{is-long, is-carried, part-least, part-most, lent-part}
+use Rattle.frames.proofs.Fronts.{is-carried, lies-inside, lent-part, lent-least, lent-most}
 use Rattle.frames.proofs.Writings.{wroteAs}
 use Rattle.frames.proofs.Edits.{Leaves, whole-refuses, part-refuses, part-accepts}
 use borrow.Author.Needs.{needs}
@@ -78,7 +77,7 @@ by-whole c = c .before .before
 within : (c : tie.After-type-byte-at) → c .type-byte-at .result ≤ length (frame (by-whole c .before))
 within c =
     let at = by-whole c .before in
-    omega (arith, c .type-byte-at .ensures, is-long (s at) (frame at) (passes (by-whole c)))
+    lies-inside (s at) (frame at) (passes (by-whole c)) (c .type-byte-at .result) (c .type-byte-at .ensures)
 
 sub-change : tie.Need-sub-change
 sub-change c = within c
@@ -95,15 +94,17 @@ lent : (c : tie.After-type-byte-at)
     take (length (frame at) - c .type-byte-at .result) (drop (c .type-byte-at .result) (frame at)) ≡ part at
 lent c =
     let at = by-whole c .before in
-    ap (λ (n : ℕ). take (length (frame at) - n) (drop n (frame at))) (c .type-byte-at .ensures)
-    ∙ lent-part (s at) (frame at) (passes (by-whole c))
+    lent-part (s at) (frame at) (passes (by-whole c)) (c .type-byte-at .result) (c .type-byte-at .ensures)
 
 change-requires : tie.Need-change-requires
 change-requires c κs =
-    let its = lent (c .before) in
-    let past = by-whole (c .before) in
-    let at = past .before in
-    (rw its (part-least (s at) (frame at) (passes past)), rw its (part-most (s at) (frame at) (passes past)))
+    let told = c .before in
+    let at = by-whole told .before in
+    let n = told .type-byte-at .result in
+    let place = told .type-byte-at .ensures in (
+      lent-least (s at) (frame at) (passes (by-whole told)) n place,
+      lent-most (s at) (frame at) (passes (by-whole told)) n place,
+    )
 
 -- tests 9, 13 and 11, and what is left of the part
 abbrev by-place : tie.After-change → tie.After-type-byte-at

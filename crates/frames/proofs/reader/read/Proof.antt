@@ -17,7 +17,7 @@ use Rattle.frames.specs.declared.front.Front.{Front}
 use Rattle.frames.specs.Tests.{refusal}
 use Rattle.frames.specs.Frames.{fromTypeByte, checksumIn, clearBody, clear, typeOf}
 use Rattle.frames.specs.Reading.{checksumRight, wholeTests, toldTo}
-use Rattle.frames.proofs.Fronts.{is-long, part-least, part-most, lent-part}
+use Rattle.frames.proofs.Fronts.{lies-inside, lent-part, lent-least, lent-most}
 use Rattle.frames.proofs.Readings.{readAs, whole-refuses, refuses-8, refuses-9, accepts}
 use borrow.Author.Needs.{needs}
 use Rattle.frames.proofs.reader.read.Statement.{statement}
@@ -93,7 +93,7 @@ type-byte-at-requires c κs = search needs
 within : (c : tie.After-type-byte-at) → c .type-byte-at .result ≤ length (frame (by-whole (c .before)))
 within c =
     let at = by-whole (c .before) in
-    omega (arith, c .type-byte-at .ensures, is-long (s at) (frame at) (passed (c .before)))
+    lies-inside (s at) (frame at) (passed (c .before)) (c .type-byte-at .result) (c .type-byte-at .ensures)
 
 sub-tell : tie.Need-sub-tell
 sub-tell c = within c
@@ -110,15 +110,17 @@ sent : (c : tie.After-type-byte-at)
     take (length (frame at) - c .type-byte-at .result) (drop (c .type-byte-at .result) (frame at)) ≡ part at
 sent c =
     let at = by-whole (c .before) in
-    ap (λ (n : ℕ). take (length (frame at) - n) (drop n (frame at))) (c .type-byte-at .ensures)
-    ∙ lent-part (s at) (frame at) (passed (c .before))
+    lent-part (s at) (frame at) (passed (c .before)) (c .type-byte-at .result) (c .type-byte-at .ensures)
 
 tell-requires : tie.Need-tell-requires
 tell-requires c κs =
-    let its = sent (c .before .before) in
-    let past = c .before .before .before in
-    let at = by-whole past in
-    (rw its (part-least (s at) (frame at) (passed past)), rw its (part-most (s at) (frame at) (passed past)))
+    let told = c .before .before in
+    let at = by-whole (told .before) in
+    let n = told .type-byte-at .result in
+    let place = told .type-byte-at .ensures in (
+      lent-least (s at) (frame at) (passed (told .before)) n place,
+      lent-most (s at) (frame at) (passed (told .before)) n place,
+    )
 
 same-length : tie.Need-same-length
 same-length c = search needs
