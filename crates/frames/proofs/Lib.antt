@@ -15,5 +15,6 @@ mod Exact
 pub mod DemandOne
 pub mod DemandTwo
 pub mod DemandThree
+pub mod Codes
 pub mod Contracts
 pub mod Determined

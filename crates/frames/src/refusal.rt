@@ -29,10 +29,10 @@ pub const ROOM: u32 = 8;
 // Checksum differs.
 pub const CHECKSUM: u32 = 9;
 
-// Number of values is not the field count.
+// Number of values is not the field count, or number of codes not ten.
 pub const VALUES: u32 = 10;
 
-// A value does not fit its field.
+// A value does not fit its field, or a code is above 255.
 pub const VALUE: u32 = 11;
 
 // Output shorter than the frame.

@@ -9,6 +9,7 @@ use Rattle.satellites.proofs.Satellite.address.Reads as address
 use Rattle.satellites.proofs.Satellite.training.Reads as training
 use Rattle.satellites.proofs.Satellite.has_size_byte.Reads as has-size-byte
 use Rattle.satellites.proofs.Satellite.type_byte_at.Reads as type-byte-at
+use Rattle.satellites.proofs.Satellite.first_temperature.Reads as first-temperature
 
 pub count-determined : (κs a r r′ s s′ : _) → count.Post κs a r s → count.Post κs a r′ s′ → r ≡ r′
 count-determined κs a r r′ s s′ p q = p ∙ sym q
@@ -30,3 +31,6 @@ has-size-byte-determined κs a r r′ s s′ p q = p ∙ sym q
 
 pub type-byte-at-determined : (κs a r r′ s s′ : _) → type-byte-at.Post κs a r s → type-byte-at.Post κs a r′ s′ → r ≡ r′
 type-byte-at-determined κs a r r′ s s′ p q = p ∙ sym q
+
+pub first-temperature-determined : (κs a r r′ s s′ : _) → first-temperature.Post κs a r s → first-temperature.Post κs a r′ s′ → r ≡ r′
+first-temperature-determined κs a r r′ s s′ p q = p ∙ sym q

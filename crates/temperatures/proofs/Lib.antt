@@ -1,0 +1,14 @@
+pub mod Along
+pub mod Contracts
+pub mod Determined
+pub mod Exact
+pub mod Extremes
+pub mod FromFrames
+pub mod Meanings
+pub mod Order
+pub mod Paper
+pub mod Places
+pub mod Readable
+pub mod Steps
+pub mod Told
+pub mod Worked

@@ -1,0 +1,4 @@
+pub mod Readings
+pub mod Running
+pub mod Summaries
+pub mod Worked
