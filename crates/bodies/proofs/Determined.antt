@@ -1,5 +1,6 @@
 -- Any two results that a public function's contract allows for one input are equal. `Post` is the contract's own text, as
 -- the check reads it: the arguments, the result, and the parameters at exit.
+-- And nothing is asked of a caller: `Pre`, what the contract requires, holds of all arguments.
 -- Assumes nothing.
 use mathlib.Core.Path.{_≡_, sym, _∙_}
 use denote.Ref.{now}
@@ -19,3 +20,15 @@ write-determined κs a r r′ s s′ p q = p ∙ sym q
 
 pub fits-determined : (κs a r r′ s s′ : _) → fits.Post κs a r s → fits.Post κs a r′ s′ → r ≡ r′
 fits-determined κs a r r′ s s′ p q = p ∙ sym q
+
+pub read-asks-nothing : (κs a : _) → read.Pre κs a
+read-asks-nothing κs a = tt
+
+pub fitting-asks-nothing : (κs a : _) → fitting.Pre κs a
+fitting-asks-nothing κs a = tt
+
+pub write-asks-nothing : (κs a : _) → write.Pre κs a
+write-asks-nothing κs a = tt
+
+pub fits-asks-nothing : (κs a : _) → fits.Pre κs a
+fits-asks-nothing κs a = tt

@@ -1,5 +1,6 @@
 -- Any two results that a public function's contract allows for one input are equal. `Post` is the contract's own text, as
 -- the check reads it: the arguments, the result, and the parameters at exit.
+-- And nothing is asked of a caller: `Pre`, what the contract requires, holds of all arguments.
 -- Assumes nothing.
 use mathlib.Core.Path.{_≡_, sym, _∙_}
 use Rattle.checksum.proofs.of.Reads as of
@@ -10,3 +11,9 @@ of-determined κs a r r′ s s′ p q = p ∙ sym q
 
 pub step-determined : (κs a r r′ s s′ : _) → step.Post κs a r s → step.Post κs a r′ s′ → r ≡ r′
 step-determined κs a r r′ s s′ p q = p ∙ sym q
+
+pub of-asks-nothing : (κs a : _) → of.Pre κs a
+of-asks-nothing κs a = tt
+
+pub step-asks-nothing : (κs a : _) → step.Pre κs a
+step-asks-nothing κs a = tt

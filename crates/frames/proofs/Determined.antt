@@ -1,6 +1,7 @@
 -- Any two results that a public function's contract allows for one input are equal: the answer, and what is left in the
 -- lent room, output or frame. `Post` is the contract's own text, as the check reads it: the arguments, the result, and the
 -- parameters at exit.
+-- And nothing is asked of a caller: `Pre`, what the contract requires, holds of all arguments.
 -- Assumes nothing.
 use mathlib.Core.Path.{_≡_, sym, _∙_}
 use denote.Ref.{now}
@@ -19,3 +20,12 @@ write-determined κs a r r′ s s′ p q = (p .0 ∙ sym (q .0), p .1 ∙ sym (q
 pub edit-determined : (κs a r r′ s s′ : _) → edit.Post κs a r s → edit.Post κs a r′ s′
     → (r ≡ r′) × (now (s .1 .0) ≡ now (s′ .1 .0))
 edit-determined κs a r r′ s s′ p q = (p .0 ∙ sym (q .0), p .1 ∙ sym (q .1))
+
+pub read-asks-nothing : (κs a : _) → read.Pre κs a
+read-asks-nothing κs a = tt
+
+pub write-asks-nothing : (κs a : _) → write.Pre κs a
+write-asks-nothing κs a = tt
+
+pub edit-asks-nothing : (κs a : _) → edit.Pre κs a
+edit-asks-nothing κs a = tt

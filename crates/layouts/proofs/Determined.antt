@@ -1,5 +1,6 @@
 -- Any two results that a public function's contract allows for one input are equal. `Post` is the contract's own text, as
 -- the check reads it.
+-- And nothing is asked of a caller: `Pre`, what the contract requires, holds of all arguments.
 -- Assumes nothing.
 use mathlib.Core.Path.{_≡_, sym, _∙_}
 use Rattle.layouts.proofs.of.Reads as layout
@@ -14,3 +15,12 @@ width-determined κs a r r′ s s′ p q = p ∙ sym q
 
 pub start-determined : (κs a r r′ s s′ : _) → start.Post κs a r s → start.Post κs a r′ s′ → r ≡ r′
 start-determined κs a r r′ s s′ p q = p ∙ sym q
+
+pub layout-asks-nothing : (κs a : _) → layout.Pre κs a
+layout-asks-nothing κs a = tt
+
+pub width-asks-nothing : (κs a : _) → width.Pre κs a
+width-asks-nothing κs a = tt
+
+pub start-asks-nothing : (κs a : _) → start.Pre κs a
+start-asks-nothing κs a = tt

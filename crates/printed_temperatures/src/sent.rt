@@ -27,7 +27,7 @@ pub(crate) fn print(n: u32) {
 }
 
 fn print_unread() {
-    io::write_all(STDOUT_FILENO, b"refused");
+    io::write_all(STDOUT_FILENO, b" refused");
 }
 
 fn print_sent(number: u32, first: usize, n: u32) {

@@ -1,5 +1,6 @@
 -- Any two results that a public function's contract allows for one input are equal. `Post` is the contract's own text, as
 -- the check reads it.
+-- And nothing is asked of a caller: `Pre`, what the contract requires, holds of all arguments.
 -- Assumes nothing.
 use mathlib.Core.Path.{_≡_, sym, _∙_}
 use Rattle.satellites.proofs.Satellite.count.Reads as count
@@ -34,3 +35,27 @@ type-byte-at-determined κs a r r′ s s′ p q = p ∙ sym q
 
 pub first-temperature-determined : (κs a r r′ s s′ : _) → first-temperature.Post κs a r s → first-temperature.Post κs a r′ s′ → r ≡ r′
 first-temperature-determined κs a r r′ s s′ p q = p ∙ sym q
+
+pub count-asks-nothing : (κs a : _) → count.Pre κs a
+count-asks-nothing κs a = tt
+
+pub from-number-asks-nothing : (κs a : _) → from-number.Pre κs a
+from-number-asks-nothing κs a = tt
+
+pub number-asks-nothing : (κs a : _) → number.Pre κs a
+number-asks-nothing κs a = tt
+
+pub address-asks-nothing : (κs a : _) → address.Pre κs a
+address-asks-nothing κs a = tt
+
+pub training-asks-nothing : (κs a : _) → training.Pre κs a
+training-asks-nothing κs a = tt
+
+pub has-size-byte-asks-nothing : (κs a : _) → has-size-byte.Pre κs a
+has-size-byte-asks-nothing κs a = tt
+
+pub type-byte-at-asks-nothing : (κs a : _) → type-byte-at.Pre κs a
+type-byte-at-asks-nothing κs a = tt
+
+pub first-temperature-asks-nothing : (κs a : _) → first-temperature.Pre κs a
+first-temperature-asks-nothing κs a = tt

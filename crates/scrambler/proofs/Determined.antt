@@ -1,5 +1,6 @@
 -- Any two results that a public function's contract allows for one input are equal. `Post` is the contract's own text, as
 -- the check reads it: the arguments, the result, and the parameters at exit.
+-- And nothing is asked of a caller: `Pre`, what the contract requires, holds of all arguments.
 -- Assumes nothing.
 use mathlib.Core.Path.{_≡_, sym, _∙_}
 use mathlib.Core.List.{List}
@@ -27,3 +28,12 @@ scramble-determined κs a r r′ s s′ p q = passes-determined Scramble (a .0) 
 pub unscramble-determined : (κs a r r′ s s′ : _) → unscramble.Post κs a r s → unscramble.Post κs a r′ s′
     → (r ≡ r′) × (now (s .1 .0) ≡ now (s′ .1 .0))
 unscramble-determined κs a r r′ s s′ p q = passes-determined Unscramble (a .0) (now (a .1 .0)) p q
+
+pub restarted-asks-nothing : (κs a : _) → restarted.Pre κs a
+restarted-asks-nothing κs a = tt
+
+pub scramble-asks-nothing : (κs a : _) → scramble.Pre κs a
+scramble-asks-nothing κs a = tt
+
+pub unscramble-asks-nothing : (κs a : _) → unscramble.Pre κs a
+unscramble-asks-nothing κs a = tt
