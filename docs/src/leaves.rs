@@ -1,6 +1,5 @@
 //! The rules of the leaves: checksum, scrambler, bit fields. Each is applied
-//! to one bit after the other. Not every program that uses it uses all of it.
-#![allow(dead_code)]
+//! to one bit after the other.
 
 use crate::bits::{low_bits, number_of_bits};
 

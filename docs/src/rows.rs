@@ -1,5 +1,6 @@
 //! The field tables of 01: which types a satellite sends, how wide their
-//! fields are, and how long that makes a frame. All three programs use it.
+//! fields are, and how long that makes a frame. Both programs use a part of it.
+#![allow(dead_code)]
 
 use crate::satellites::Satellite;
 

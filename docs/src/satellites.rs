@@ -1,6 +1,8 @@
 //! What is a satellite's own, from 01, "From antenna order to bytes". Each of
-//! the three programs uses a part of it.
+//! the two programs uses a part of it.
 #![allow(dead_code)]
+
+use crate::rows::{rows, widths};
 
 pub const SYNC_BYTES: usize = 2;
 
@@ -36,18 +38,27 @@ impl Satellite {
     }
 }
 
-/// Number, address, training, size and place of the type byte in hexadecimal,
-/// or "none".
+/// Number, address, training, size, place of the type byte and first
+/// temperature in hexadecimal, or "none".
 pub fn own(number: usize) -> String {
     match SATELLITES.get(number) {
         None => "none".to_string(),
         Some(own) => format!(
-            "{:02X} {:02X} {:02X} {:02X} {:02X}",
+            "{:02X} {:02X} {:02X} {:02X} {:02X} {:02X}",
             number,
             own.address,
             own.training,
             own.size,
-            own.before_type()
+            own.before_type(),
+            first_temperature(number)
         ),
+    }
+}
+
+/// The ten temperatures are the last ten fields of type 2.
+fn first_temperature(number: usize) -> usize {
+    match rows(number).into_iter().find(|row| row.kind == 2) {
+        Some(row) => widths(row).len() - 10,
+        None => panic!("satellite {} has no type 2", number),
     }
 }

@@ -1,10 +1,12 @@
 -- Demand 1, on every call that reads, writes or edits a frame, as theorems. They speak of the definitions that the contracts
--- cite: `read` answers `reading` and leaves `roomAfter`, `write` answers `writing` and leaves `outputAfter`, `edit` answers
--- `editing` and leaves `frameAfter`, of what the satellite's number names (`known`) and of what the call was given; Contracts.antt
--- shows that. r is the register that the scrambler starts from; the contracts give `restarted`, and all of this holds for every r.
+-- cite: `reading::read` answers `reading` and leaves `roomAfter`, `writing::write` answers `writing` and leaves `outputAfter`,
+-- `editing::edit` answers `editing` and leaves `frameAfter`, of what the satellite's number names (`known`) and of what the call was
+-- given; proofs/Contracts.antt of each of these crates shows that. r is the register that the scrambler starts from; the contracts
+-- give `restarted`, and all of this holds for every r.
 --
 -- "Every call .. keeps nothing from the call before": what is answered and left are functions of the call's arguments, and
--- `Determined` shows that the contracts allow nothing else. "Answers for all input": the contracts ask for nothing.
+-- `Determined` in each of these crates shows that the contracts allow nothing else. "Answers for all input": the contracts ask for
+-- nothing, which `Determined` shows too.
 --
 -- The words: `trainingOf`, `sizeByteOf`, `addressOf` are a satellite's constants, and its type byte stands at `typeByteAt`.
 -- `carries s t` says that 01's table has type t for satellite s; its line is `entryOf s t`, with the fields' `widths` and the

@@ -90,7 +90,7 @@ module _ (r : Register) (s : Satellite) (t n : ℕ) (frame room : List ℕ)
   module _ (v : ℕ) (fits : v < 2 ^ widthAt ws k) where
     none-fails : refusal (editingTests r (Is s) frame k v) ≡ 0
     none-fails =
-        edits.all-right r s frame k v whole (answers.was-right r s frame room t n answer)
+        edits.none-fails r s frame k v whole (answers.was-right r s frame room t n answer)
         (subst (λ u. k < length (entryOf s u .widths)) (sym typed) there)
         (subst (λ u. v < 2 ^ widthAt (entryOf s u .widths) k) (sym typed) fits)
 

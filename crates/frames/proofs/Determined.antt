@@ -1,31 +1,19 @@
--- Any two results that a public function's contract allows for one input are equal: the answer, and what is left in the
--- lent room, output or frame. `Post` is the contract's own text, as the check reads it: the arguments, the result, and the
--- parameters at exit.
+-- Any two results that a public function's contract allows for one input are equal. `Post` is the contract's own text, as
+-- the check reads it.
 -- And nothing is asked of a caller: `Pre`, what the contract requires, holds of all arguments.
 -- Assumes nothing.
 use mathlib.Core.Path.{_≡_, sym, _∙_}
-use denote.Ref.{now}
-use Rattle.frames.proofs.read.Reads as read
-use Rattle.frames.proofs.write.Reads as write
-use Rattle.frames.proofs.edit.Reads as edit
+use Rattle.frames.proofs.Reading.refused.Reads as reading-refused
+use Rattle.frames.proofs.Writing.refused.Reads as writing-refused
 
-pub read-determined : (κs a r r′ s s′ : _) → read.Post κs a r s → read.Post κs a r′ s′
-    → (r ≡ r′) × (now (s .1 .1 .0) ≡ now (s′ .1 .1 .0))
-read-determined κs a r r′ s s′ p q = (p .0 ∙ sym (q .0), p .1 ∙ sym (q .1))
+pub reading-refused-determined : (κs a r r′ s s′ : _) → reading-refused.Post κs a r s → reading-refused.Post κs a r′ s′ → r ≡ r′
+reading-refused-determined κs a r r′ s s′ p q = p ∙ sym q
 
-pub write-determined : (κs a r r′ s s′ : _) → write.Post κs a r s → write.Post κs a r′ s′
-    → (r ≡ r′) × (now (s .1 .1 .1 .0) ≡ now (s′ .1 .1 .1 .0))
-write-determined κs a r r′ s s′ p q = (p .0 ∙ sym (q .0), p .1 ∙ sym (q .1))
+pub writing-refused-determined : (κs a r r′ s s′ : _) → writing-refused.Post κs a r s → writing-refused.Post κs a r′ s′ → r ≡ r′
+writing-refused-determined κs a r r′ s s′ p q = p ∙ sym q
 
-pub edit-determined : (κs a r r′ s s′ : _) → edit.Post κs a r s → edit.Post κs a r′ s′
-    → (r ≡ r′) × (now (s .1 .0) ≡ now (s′ .1 .0))
-edit-determined κs a r r′ s s′ p q = (p .0 ∙ sym (q .0), p .1 ∙ sym (q .1))
+pub reading-refused-asks-nothing : (κs a : _) → reading-refused.Pre κs a
+reading-refused-asks-nothing κs a = tt
 
-pub read-asks-nothing : (κs a : _) → read.Pre κs a
-read-asks-nothing κs a = tt
-
-pub write-asks-nothing : (κs a : _) → write.Pre κs a
-write-asks-nothing κs a = tt
-
-pub edit-asks-nothing : (κs a : _) → edit.Pre κs a
-edit-asks-nothing κs a = tt
+pub writing-refused-asks-nothing : (κs a : _) → writing-refused.Pre κs a
+writing-refused-asks-nothing κs a = tt

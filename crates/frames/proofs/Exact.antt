@@ -28,7 +28,7 @@ use Rattle.frames.proofs.Readings as readings
 use Rattle.frames.proofs.Readings.{readAs}
 use Rattle.frames.proofs.Writings as writings
 use Rattle.frames.proofs.Writings.{wroteAs}
-use Rattle.frames.proofs.Assembled.{three-least, told-length}
+use Rattle.frames.proofs.Sizes.{three-least, told-length}
 use Rattle.frames.proofs.Wholes.{frame-again, values-again}
 use Rattle.frames.proofs.Wholes as wholes
 use Rattle.frames.proofs.Answers as answers
@@ -60,9 +60,11 @@ module _ (r : Register) (s : Satellite) (frame room : List ℕ) where
           leb-true (length (entryIn s frame .widths)) (length room) (answers.all-held r s frame room t n answer 7 (omega arith)),
         )
 
-    value-at : (i : ℕ) → i < n
-        → getD (roomAfter r (Is s) frame room) i 0
-        ≡ field (startAt (entryOf s t .widths) i) (widthAt (entryOf s t .widths) i) (clearBody r part)
+    -- the table's field, in the unscrambled body
+    abbrev field-at : ℕ → ℕ
+    field-at i = field (startAt (entryOf s t .widths) i) (widthAt (entryOf s t .widths) i) (clearBody r part)
+
+    value-at : (i : ℕ) → i < n → getD (roomAfter r (Is s) frame room) i 0 ≡ field-at i
     unfolding field valuesOf
     value-at i h =
         ap (λ (l : List ℕ). getD l i 0) (answers.its-room r s frame room t n answer)
@@ -78,9 +80,7 @@ module _ (r : Register) (s : Satellite) (frame room : List ℕ) where
     room-behind : drop n (roomAfter r (Is s) frame room) ≡ drop n room
     room-behind = ap (drop n) (answers.its-room r s frame room t n answer) ∙ drop-at (valuesOf r s frame) (drop n room) n values-length
 
-    pub room-told : ((i : ℕ) → i < n
-        → getD (roomAfter r (Is s) frame room) i 0
-        ≡ field (startAt (entryOf s t .widths) i) (widthAt (entryOf s t .widths) i) (clearBody r part))
+    pub room-told : ((i : ℕ) → i < n → getD (roomAfter r (Is s) frame room) i 0 ≡ field-at i)
         × ((length (roomAfter r (Is s) frame room) ≡ length room) × (drop n (roomAfter r (Is s) frame room) ≡ drop n room))
     room-told = (value-at, (room-length, room-behind))
 

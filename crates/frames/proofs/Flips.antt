@@ -27,7 +27,7 @@ use Rattle.bodies.proofs.Laws.{length-tiled}
 use Rattle.bodies.proofs.Changes.{tiled-ahead, tiled-flips}
 use Rattle.frames.specs.Frames.{ahead, typeByte, sealed, bodyOf, frameOf}
 use Rattle.frames.proofs.Preambles.{length-ahead}
-use Rattle.frames.proofs.Assembled.{size-least}
+use Rattle.frames.proofs.Sizes.{size-least}
 
 -- the bits that flip as a body is sent, and in the checksum, where `flips` are those of the body
 abbrev pub sentFlips : Register → List Bool → List Bool

@@ -1,16 +1,15 @@
--- Tests 2 to 7: what a frame is refused with by them, and what lies from type byte to checksum where none fails.
+-- Tests 2 to 7: where none of them fails, other tests behind them, and what lies from type byte to checksum of a frame that they accept.
 -- Assumes nothing.
-use Prim.Native.Nat.{ℕ, _+_, _-_, _*_, _%_, _≤_, _<_}
-use Prim.{⊥}
+use Prim.Native.Nat.{ℕ, _+_, _*_, _%_, _≤_, _<_}
 use native.Mathlib.Omega.{arith}
-use mathlib.Core.Path.{_≡_, refl, sym, _∙_, ap, ap₂, subst}
+use mathlib.Core.Path.{_≡_, refl, sym, _∙_, ap}
 use mathlib.Core.Logic.{_≢_}
-use mathlib.Core.Bool.{Bool, true, false, not, _||_}
+use mathlib.Core.Bool.{Bool, true, not, _||_}
 use mathlib.Core.List.{List, [], _∷_, _++_}
-use borrow.Author.Tests.{eq-eqb, ne-eqb, eqb-true, ltb-true}
+use borrow.Author.Tests.{eq-eqb, eqb-true, ltb-true}
 use lib.Dec.{eqb, ltb}
 use native.Mathlib.Nat.{add-zero}
-use lib.Seq.{getD-drop, take-all}
+use lib.Seq.{getD-drop}
 use lib.ListN.{length, getD, take, drop, length-drop}
 use Rattle.scrambler.specs.declared.Register.{Register}
 use Rattle.scrambler.specs.declared.Direction.the-variants.{Unscramble}
@@ -19,15 +18,15 @@ use Rattle.satellites.specs.declared.Satellite.{Satellite}
 use Rattle.satellites.specs.Satellites.{addressOf, trainingOf, sizeByteOf, typeByteAt}
 use Rattle.layouts.specs.Rules.{every}
 use Rattle.layouts.specs.Layouts.{total, carries, layoutOf}
-use Rattle.layouts.proofs.Entries.{tiles-body, size-most}
+use Rattle.layouts.proofs.Entries.{tiles-body}
 use Rattle.frames.specs.Tests.{Test, test, refusal, AllHold, Iff}
 use Rattle.frames.specs.Frames.{training, sync, ahead, typeByte, frameLength}
 use Rattle.frames.specs.Frames.{sizeIn, fromTypeByte, addressIn, bodyIn, clearBody, typeOf, entryIn}
 use Rattle.frames.specs.Reading.{preambled, frontTests, wholeTests}
-use Rattle.frames.proofs.Tests.{stops, goes, none-left, Numbered, all-hold, behind-held, behind-failed, ahead-held}
+use Rattle.frames.proofs.Tests.{goes, none-left, Numbered, all-hold, behind-held, behind-failed, ahead-held}
 use Rattle.frames.proofs.Parts.{length-body}
 use Rattle.frames.proofs.Preambles.{is-ahead}
-use Rattle.frames.proofs.Assembled.{three-least, told-length}
+use Rattle.frames.proofs.Sizes.{three-least, told-length}
 use Rattle.frames.proofs.Says.{equal, same-bytes, both, only-where}
 
 -- the byte at a place, and the first of those from there on
@@ -51,61 +50,20 @@ module _ (s : Satellite) (frame : List ℕ) where
   abbrev pub sized : Bool
   sized = not (sizeByteOf s) || eqb (sizeIn s frame) (entryIn s frame .size)
 
-  pub size-differs : sizeByteOf s ≡ true → (sizeIn s frame ≡ entryIn s frame .size → ⊥) → sized ≡ false
-  size-differs has other =
-      ap₂ (λ (b d : Bool). not b || d) has (ne-eqb (sizeIn s frame) (entryIn s frame .size) other)
-
-  pub size-agrees : sizeByteOf s ≡ true → sizeIn s frame ≡ entryIn s frame .size → sized ≡ true
-  size-agrees has same-size =
-      ap₂ (λ (b d : Bool). not b || d) has (eq-eqb (sizeIn s frame) (entryIn s frame .size) same-size)
-
-  pub no-size-byte : sizeByteOf s ≡ false → sized ≡ true
-  no-size-byte none = ap (λ (b : Bool). not b || eqb (sizeIn s frame) (entryIn s frame .size)) none
-
-  -- each that fails first
-  pub fails-2 : long ≡ false → refusal (frontTests s frame) ≡ 2
-  unfolding frontTests
-  fails-2 e = stops 2 long _ e
-
-  pub fails-3 : long ≡ true → preamble ≡ false → refusal (frontTests s frame) ≡ 3
-  unfolding frontTests
-  fails-3 a e = goes 2 long _ a ∙ stops 3 preamble _ e
-
-  pub fails-4 : long ≡ true → preamble ≡ true → addressed ≡ false → refusal (frontTests s frame) ≡ 4
-  unfolding frontTests
-  fails-4 a b e = goes 2 long _ a ∙ goes 3 preamble _ b ∙ stops 4 addressed _ e
-
-  pub fails-5 : long ≡ true → preamble ≡ true → addressed ≡ true → carried ≡ false → refusal (frontTests s frame) ≡ 5
-  unfolding frontTests
-  fails-5 a b c e = goes 2 long _ a ∙ goes 3 preamble _ b ∙ goes 4 addressed _ c ∙ stops 5 carried _ e
-
-  pub fails-6 : long ≡ true → preamble ≡ true → addressed ≡ true → carried ≡ true → sized ≡ false → refusal (frontTests s frame) ≡ 6
-  unfolding frontTests
-  fails-6 a b c d e = goes 2 long _ a ∙ goes 3 preamble _ b ∙ goes 4 addressed _ c ∙ goes 5 carried _ d ∙ stops 6 sized _ e
-
+  -- tests 2 to 6
   pub none-fails : long ≡ true → preamble ≡ true → addressed ≡ true → carried ≡ true → sized ≡ true → refusal (frontTests s frame) ≡ 0
   unfolding frontTests
   none-fails a b c d e = goes 2 long _ a ∙ goes 3 preamble _ b ∙ goes 4 addressed _ c ∙ goes 5 carried _ d ∙ goes 6 sized [] e ∙ none-left
 
   -- test 7, behind them
-  pub front-refused : refusal (frontTests s frame) ≢ 0 → refusal (wholeTests s frame) ≡ refusal (frontTests s frame)
-  unfolding wholeTests
-  front-refused some = behind-failed (frontTests s frame) _ some
-
   module _ (front : refusal (frontTests s frame) ≡ 0) where
-    held : AllHold (frontTests s frame)
+    pub held : AllHold (frontTests s frame)
     unfolding frontTests every
     held = all-hold (frontTests s frame) tt front
 
-    its-frame : layoutOf s (typeOf s frame) .frame ≡ frameLength s (typeOf s frame)
+    pub its-frame : layoutOf s (typeOf s frame) .frame ≡ frameLength s (typeOf s frame)
     unfolding frontTests
     its-frame = told-length s (typeOf s frame) (held 3 (omega arith))
-
-    pub fails-7 : (length frame ≡ layoutOf s (typeOf s frame) .frame → ⊥) → refusal (wholeTests s frame) ≡ 7
-    unfolding wholeTests
-    fails-7 other =
-        behind-held (frontTests s frame) _ held
-        ∙ stops 7 _ [] (ne-eqb (length frame) (frameLength s (typeOf s frame)) (λ e. other (e ∙ sym its-frame)))
 
     pub whole-holds : length frame ≡ layoutOf s (typeOf s frame) .frame → refusal (wholeTests s frame) ≡ 0
     unfolding wholeTests
@@ -141,7 +99,7 @@ module _ (s : Satellite) (frame : List ℕ) where
     whole-held : AllHold (wholeTests s frame)
     whole-held = all-hold (wholeTests s frame) whole-numbered whole
 
-    is-long : typeByteAt s < length frame
+    pub is-long : typeByteAt s < length frame
     unfolding wholeTests frontTests
     is-long = ltb-true (typeByteAt s) (length frame) (whole-held 0 (omega arith))
 
@@ -178,29 +136,11 @@ module _ (s : Satellite) (frame : List ℕ) where
     abbrev part : List ℕ
     part = fromTypeByte s frame
 
-    part-length : length part ≡ entryIn s frame .size
+    pub part-length : length part ≡ entryIn s frame .size
     part-length = length-drop (typeByteAt s) frame ∙ omega (arith, is-whole)
 
     pub part-least : 3 ≤ length part
     part-least = omega (arith, part-length, three-least s (typeOf s frame) is-carried)
-
-    part-most : length part ≤ 255
-    part-most = omega (arith, part-length, size-most s (typeOf s frame) is-carried)
-
-    -- it is what is lent from the type byte's place on
-    module _ (n : ℕ) (place : n ≡ typeByteAt s) where
-      pub lies-inside : n ≤ length frame
-      lies-inside = omega (arith, place, is-long)
-
-      pub lent-part : take (length frame - n) (drop n frame) ≡ part
-      lent-part =
-          take-all (length frame - n) (drop n frame) (omega (arith, length-drop n frame)) ∙ ap (λ (m : ℕ). drop m frame) place
-
-      pub lent-least : 3 ≤ length (take (length frame - n) (drop n frame))
-      lent-least = subst (λ (l : List ℕ). 3 ≤ length l) (sym lent-part) part-least
-
-      pub lent-most : length (take (length frame - n) (drop n frame)) ≤ 255
-      lent-most = subst (λ (l : List ℕ). length l ≤ 255) (sym lent-part) part-most
 
     -- what stands ahead of it
     pub front-is : take (typeByteAt s) frame ≡ ahead s (entryIn s frame .size)

@@ -1,20 +1,19 @@
-mod Tests
-mod Preambles
-mod Parts
-mod Assembled
+pub mod Tests
+pub mod Preambles
+pub mod Parts
+pub mod Sizes
 mod Says
-mod Fronts
-mod Readings
-mod Writings
+pub mod Fronts
+pub mod Readings
+pub mod Writings
 mod Seals
 mod Wholes
 mod Flips
-mod Edits
+pub mod Edits
 mod Answers
 mod Exact
 pub mod DemandOne
 pub mod DemandTwo
 pub mod DemandThree
 pub mod Codes
-pub mod Contracts
 pub mod Determined

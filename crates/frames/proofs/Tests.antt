@@ -4,7 +4,7 @@ use Prim.Native.Nat.{ℕ, zero, suc, _<_}
 use native.Mathlib.Nat.{le-of-suc-le-suc, not-suc-le-zero}
 use native.Mathlib.Omega.{arith}
 use mathlib.Core.Logic.{_≢_}
-use mathlib.Core.Path.{_≡_, refl, sym, _∙_, ap₂, subst}
+use mathlib.Core.Path.{_≡_, refl, sym, _∙_, ap₂}
 use mathlib.Core.Bool.{Bool, true, false, false≢true, _&&_, cond}
 use mathlib.Core.List.{List, [], _∷_, _++_}
 use mir.Facts.{and-yes}
@@ -128,12 +128,3 @@ pub equal-same : (xs : List ℕ) → same xs xs ≡ true
 unfolding same
 equal-same [] = refl
 equal-same (x ∷ xs) = rw (eq-eqb x x refl) (equal-same xs)
-
--- a test of two runs that is true exactly when they are equal is this one
-pub is-same : (b : Bool) (xs ys : List ℕ) → (b ≡ true → xs ≡ ys) × (xs ≡ ys → b ≡ true) → b ≡ same xs ys
-is-same true xs ys e = subst (λ l. true ≡ same xs l) (e .0 refl) (sym (equal-same xs))
-is-same false xs ys e = go (same xs ys) refl
-  where
-    go : (s : Bool) → same xs ys ≡ s → false ≡ s
-    go true h = e .1 (same-equal xs ys h)
-    go false h = refl

@@ -27,7 +27,7 @@ use Rattle.frames.specs.Reading.{wholeTests, checksumRight}
 use Rattle.frames.proofs.Fronts.{first-at, front-is, is-typed, part-least, clear-length, clear-tiled}
 use Rattle.frames.proofs.Preambles.{length-ahead}
 use Rattle.frames.proofs.Parts.{length-sealed}
-use Rattle.frames.proofs.Assembled.{three-least, size-least}
+use Rattle.frames.proofs.Sizes.{three-least, size-least}
 use Rattle.frames.proofs.Seals.{sealed-checksum, sealed-first, sealed-clear, clear-sealed}
 
 -- ---- a frame whose parts are right

@@ -3,19 +3,17 @@
 use Prim.Native.Nat.{ℕ, _^_}
 use mathlib.Core.Bool.{true, false, cond}
 use mathlib.Core.List.{List, [], _∷_, _++_}
-use lib.ListN.{length, getD, set}
+use lib.ListN.{length, set}
 use lib.Dec.{eqb, ltb}
-use Rattle.bits.specs.Bits.{replacedAnswer}
 use Rattle.scrambler.specs.declared.Register.{Register}
 use Rattle.satellites.specs.declared.Satellite.{Satellite}
 use Rattle.satellites.specs.declared.Known.{Known}
 use Rattle.satellites.specs.declared.Known.the-variants.{Is, Unknown}
-use Rattle.layouts.specs.declared.Layout.{Layout}
-use Rattle.layouts.specs.Layouts.{widthAt, startAt}
+use Rattle.layouts.specs.Layouts.{widthAt}
 use Rattle.frames.specs.declared.Writing.{Writing}
 use Rattle.frames.specs.Tests.{Test, test, refusal}
-use Rattle.frames.specs.Frames.{sealed, frameOf, clearBody, typeOf, entryIn, valuesOf}
-use Rattle.frames.specs.Reading.{wholeTests, checksumRight, checksumTest}
+use Rattle.frames.specs.Frames.{frameOf, typeOf, entryIn, valuesOf}
+use Rattle.frames.specs.Reading.{wholeTests, checksumTest}
 use Rattle.frames.specs.Writing.{acceptedWriting, refusedWriting}
 
 -- "Editing (satellite, frame, field, value) tests 1 to 7, 9, 13, 11"
@@ -46,18 +44,3 @@ edited r s frame k v = frameOf r s (typeOf s frame) (set (valuesOf r s frame) k 
 unfoldable pub frameAfter : Register → Known → List ℕ → ℕ → ℕ → List ℕ
 frameAfter r Unknown frame k v = frame
 frameAfter r (Is s) frame k v = cond (eqb (refusal (editingTests r (Is s) frame k v)) 0) (edited r s frame k v) frame
-
--- 13 and 11, for any layout; and with 9 ahead, on what lies from type byte to checksum
-abbrev pub fieldTests : Layout → ℕ → ℕ → List Test
-fieldTests layout k v = test 13 (ltb k (layout .fields)) ∷ test 11 (ltb v (2 ^ widthAt (layout .widths) k)) ∷ []
-
-abbrev pub partTests : Register → Layout → List ℕ → ℕ → ℕ → List Test
-partTests r layout part k v = test 9 (checksumRight r part) ∷ fieldTests layout k v
-
--- and that part with the field of its unscrambled body replaced
-abbrev pub editedPart : Register → Layout → List ℕ → ℕ → ℕ → List ℕ
-editedPart r layout part k v =
-    sealed r (getD part 0 0) (replacedAnswer (startAt (layout .widths) k) (widthAt (layout .widths) k) v (clearBody r part))
-
-abbrev pub partAfter : Register → Layout → List ℕ → ℕ → ℕ → List ℕ
-partAfter r layout part k v = cond (eqb (refusal (partTests r layout part k v)) 0) (editedPart r layout part k v) part

@@ -10,11 +10,8 @@ use Rattle.satellites.specs.declared.Satellite.{Satellite}
 use Rattle.satellites.specs.declared.Known.{Known}
 use Rattle.satellites.specs.declared.Known.the-variants.{Is, Unknown}
 use Rattle.satellites.specs.Satellites.{addressOf, trainingOf, sizeByteOf, typeByteAt}
-use Rattle.layouts.specs.declared.Layout.{Layout}
-use Rattle.layouts.specs.Layouts.{carries, layoutOf}
-use Rattle.bodies.specs.Bodies.{filled, valuesFrom, widthsIn}
+use Rattle.layouts.specs.Layouts.{carries}
 use Rattle.frames.specs.declared.Reading.{Reading}
-use Rattle.frames.specs.declared.front.Front.{Front}
 use Rattle.frames.specs.Tests.{Test, test, refusal, same}
 use Rattle.frames.specs.Frames.{training, sync, frameLength}
 use Rattle.frames.specs.Frames.{sizeIn, fromTypeByte, addressIn, checksumIn, clear, typeOf, entryIn, valuesOf}
@@ -80,11 +77,3 @@ unfoldable pub roomAfter : Register → Known → List ℕ → List ℕ → List
 roomAfter r Unknown frame room = room
 roomAfter r (Is s) frame room =
     cond (eqb (refusal (readingTests r (Is s) frame room)) 0) (valuesOf r s frame ++ drop (length (entryIn s frame .widths)) room) room
-
--- what the front of a frame tells: the first of some tests that fails, the type, and what is told of that type
-abbrev pub frontOf : List Test → Satellite → List ℕ → Front
-frontOf tests s frame = record { refusal = refusal tests; ty = typeOf s frame; layout = layoutOf s (typeOf s frame) }
-
--- the room after a body, where its checksum is right
-abbrev pub toldTo : Bool → Layout → List ℕ → List ℕ → List ℕ
-toldTo right layout body room = cond right (filled (valuesFrom 0 (widthsIn layout) body) room) room

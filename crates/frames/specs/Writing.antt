@@ -5,16 +5,14 @@ use mathlib.Core.List.{List, [], _∷_, _++_}
 use lib.ListN.{length, drop}
 use lib.Dec.{eqb, leb}
 use Rattle.scrambler.specs.declared.Register.{Register}
-use Rattle.scrambler.specs.Scrambler.{restarted}
 use Rattle.satellites.specs.declared.Satellite.{Satellite}
 use Rattle.satellites.specs.declared.Known.{Known}
 use Rattle.satellites.specs.declared.Known.the-variants.{Is, Unknown}
-use Rattle.layouts.specs.declared.Layout.{Layout}
 use Rattle.layouts.specs.Layouts.{carries, entryOf}
-use Rattle.bodies.specs.Bodies.{fitting, laidFrom, widthsIn}
+use Rattle.bodies.specs.Bodies.{fitting}
 use Rattle.frames.specs.declared.Writing.{Writing}
 use Rattle.frames.specs.Tests.{Test, test, refusal}
-use Rattle.frames.specs.Frames.{sealed, frameOf, frameLength, bodyIn}
+use Rattle.frames.specs.Frames.{frameOf, frameLength}
 
 -- "Writing (satellite, type, values, output) tests 1, 5, 10, 11, 12"
 unfoldable pub writingTests : Known → ℕ → List ℕ → List ℕ → List Test
@@ -50,7 +48,3 @@ unfoldable pub outputAfter : Register → Known → ℕ → List ℕ → List �
 outputAfter r Unknown t values output = output
 outputAfter r (Is s) t values output =
     cond (eqb (refusal (writingTests (Is s) t values output)) 0) (frameOf r s t values ++ drop (frameLength s t) output) output
-
--- values laid into the body of a part, and the part sealed
-abbrev pub sent : ℕ → Layout → List ℕ → List ℕ → List ℕ
-sent typed layout values part = sealed restarted typed (laidFrom 0 (widthsIn layout) values (bodyIn part))

@@ -1,24 +1,12 @@
-// Reading, writing and editing whole frames (01, "What is refused, and in which order"; FORMAT 3, 7 and 8).
+// What a frame is, and what reading, writing and editing answer (01, "What is refused, and in which order"; FORMAT 3, 7 and 8).
 //
-// Each call names the satellite by its number, answers for all input, and keeps nothing. What it cannot accept it refuses
-// with the paper's number, and a refused call leaves the room, the output or the frame as it was.
-mod clear;
-mod editor;
-mod front;
-mod preamble;
-mod reader;
+// The definitions and the demands, as theorems, are in specs/ and proofs/. The code that reads, writes and edits is in the crates
+// above, whose contracts cite these definitions; here are the answers that they give.
 pub mod refusal;
-mod sealed;
-mod writer;
 
 ghost use mathlib.Core.Path.{_≡_};
-ghost use Rattle.scrambler.specs.Scrambler.{restarted};
-ghost use Rattle.satellites.specs.Satellites.{known};
-ghost use Rattle.frames.specs.Reading.{reading, roomAfter};
-ghost use Rattle.frames.specs.Writing.{writing, outputAfter};
-ghost use Rattle.frames.specs.Editing.{editing, frameAfter};
-use satellites::Known;
-use satellites::Satellite;
+ghost use Rattle.frames.specs.Reading.{refusedReading};
+ghost use Rattle.frames.specs.Writing.{refusedWriting};
 
 // What reading answers: the refusal's number, and of an accepted frame its type and how many fields it has.
 pub struct Reading {
@@ -34,35 +22,33 @@ pub struct Writing {
     pub answer: usize,
 }
 
-// Reads a frame that this satellite sent. The values fill the room's first places; later places stay.
-pub fn read(satellite: u32, frame: &[u8], room: &mut [u32]) -> Reading
-    ensures { λ r. ⌜ r ≡ reading restarted (known satellite) (now (frame .entry)) (now (room .entry)) ⌝ }
-    ensures { λ _. ⌜ now (room .exit) ≡ roomAfter restarted (known satellite) (now (frame .entry)) (now (room .entry)) ⌝ }
-{
-    match Satellite::from_number(satellite) {
-        Known::Is(named) => reader::read(named, frame, room),
-        Known::Unknown => reader::refused(refusal::SATELLITE),
+impl Reading {
+    // A refusal answers type 0, count 0.
+    pub fn refused(number: u32) -> Reading
+        ensures { λ r. ⌜ r ≡ refusedReading number ⌝ }
+    {
+        Reading {
+            refusal: number,
+            ty: 0,
+            count: 0,
+        }
     }
 }
 
-// Writes the frame of this satellite's type that carries these values. It fills the output's first bytes; later bytes stay.
-pub fn write(satellite: u32, ty: u32, values: &[u32], output: &mut [u8]) -> Writing
-    ensures { λ r. ⌜ r ≡ writing (known satellite) ty (now (values .entry)) (now (output .entry)) ⌝ }
-    ensures { λ _. ⌜ now (output .exit) ≡ outputAfter restarted (known satellite) ty (now (values .entry)) (now (output .entry)) ⌝ }
-{
-    match Satellite::from_number(satellite) {
-        Known::Is(named) => writer::write(named, ty, values, output),
-        Known::Unknown => writer::refused(refusal::SATELLITE, 0),
-    }
-}
-
-// Edits one field of a frame that this satellite sent: the frame with that field alone replaced takes the old one's place.
-pub fn edit(satellite: u32, frame: &mut [u8], field: usize, value: u32) -> Writing
-    ensures { λ r. ⌜ r ≡ editing restarted (known satellite) (now (frame .entry)) field value ⌝ }
-    ensures { λ _. ⌜ now (frame .exit) ≡ frameAfter restarted (known satellite) (now (frame .entry)) field value ⌝ }
-{
-    match Satellite::from_number(satellite) {
-        Known::Is(named) => editor::edit(named, frame, field, value),
-        Known::Unknown => writer::refused(refusal::SATELLITE, 0),
+impl Writing {
+    // A refusal answers 0, but for 11, which answers the field that its value does not fit.
+    pub fn refused(number: u32, field: usize) -> Writing
+        ensures { λ r. ⌜ r ≡ refusedWriting number field ⌝ }
+    {
+        if number == refusal::VALUE {
+            return Writing {
+                refusal: number,
+                answer: field,
+            };
+        }
+        Writing {
+            refusal: number,
+            answer: 0,
+        }
     }
 }

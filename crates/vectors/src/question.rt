@@ -1,5 +1,4 @@
-// One question: its word, its parameters, and what the leaf answers. Those about whole frames stand in `frame`.
-use crate::frame;
+// One question: its word, its parameters, and what the leaf answers.
 use crate::hex;
 use crate::text;
 use libc::STDOUT_FILENO;
@@ -45,18 +44,12 @@ fn ask(word: &[u8], data: &mut [u8]) {
         replace(data);
     } else if check::same(word, b"satellite") {
         satellite(data);
-    } else if check::same(word, b"read") {
-        frame::read(data);
-    } else if check::same(word, b"write") {
-        frame::write(data);
-    } else if check::same(word, b"edit") {
-        frame::edit(data);
     } else {
         malformed();
     }
 }
 
-pub(crate) fn malformed() {
+fn malformed() {
     io::write_all(STDOUT_FILENO, b"?");
 }
 
@@ -128,7 +121,7 @@ fn satellite(data: &[u8]) {
     }
 }
 
-// Training and place are far below 256: each is a byte here.
+// Training, place and field are far below 256: each is a byte here.
 fn print_satellite(satellite: Satellite) {
     hex::print_number(satellite.number(), 1);
     hex::print_next(satellite.address() as u32, 1);
@@ -139,4 +132,5 @@ fn print_satellite(satellite: Satellite) {
         hex::print_next(0, 1);
     }
     hex::print_next((satellite.type_byte_at() % 256) as u32, 1);
+    hex::print_next((satellite.first_temperature() % 256) as u32, 1);
 }

@@ -1,0 +1,5 @@
+mod Opened
+mod Changes
+mod Answers
+pub mod Contracts
+pub mod Determined

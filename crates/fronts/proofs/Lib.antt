@@ -1,0 +1,4 @@
+mod Compared
+mod Fails
+pub mod Lent
+pub mod Determined

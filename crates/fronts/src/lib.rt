@@ -1,0 +1,89 @@
+// Tests 2 to 7 on a frame: what its front tells, up to its type byte, and the length that a frame of that type has.
+mod preamble;
+
+ghost use mathlib.Core.Path.{_≡_};
+ghost use Rattle.layouts.specs.Layouts.{carries};
+ghost use Rattle.frames.specs.Tests.{refusal};
+ghost use Rattle.frames.specs.Frames.{typeOf, entryIn};
+ghost use Rattle.frames.specs.Reading.{frontTests, wholeTests};
+ghost use Rattle.fronts.specs.Fronts.{frontOf};
+use frames::refusal;
+use layouts::Layout;
+use satellites::Satellite;
+
+// The type, and its layout, are told of a refused front too; where the front ends ahead of the type byte, those of type 0.
+pub struct Front {
+    pub refusal: u32,
+    pub ty: u32,
+    pub layout: Layout,
+}
+
+// Tests 2 to 7.
+pub fn whole(satellite: Satellite, frame: &[u8]) -> Front
+    ensures { λ r. ⌜ r ≡ frontOf (wholeTests satellite (now (frame .entry))) satellite (now (frame .entry)) ⌝ }
+{
+    let front = of(satellite, frame);
+    let number = front.refusal;
+    let layout = front.layout;
+    if number == refusal::ACCEPTED {
+        if frame.len() != layout.frame {
+            return Front {
+                refusal: refusal::LENGTH,
+                ty: front.ty,
+                layout,
+            };
+        }
+    }
+    front
+}
+
+// Tests 2 to 6.
+fn of(satellite: Satellite, frame: &[u8]) -> Front
+    ensures { λ r. ⌜ r ≡ frontOf (frontTests satellite (now (frame .entry))) satellite (now (frame .entry)) ⌝ }
+{
+    let ty = type_sent(satellite, frame);
+    let layout = layouts::of(satellite, ty);
+    let refusal = test(satellite, frame, layout.carried, layout.size);
+    Front {
+        refusal,
+        ty,
+        layout,
+    }
+}
+
+fn type_sent(satellite: Satellite, frame: &[u8]) -> u32
+    ensures { λ r. ⌜ r ≡ typeOf satellite (now (frame .entry)) ⌝ }
+{
+    let at = satellite.type_byte_at();
+    if frame.len() <= at {
+        return 0;
+    }
+    (frame[at] / 16) as u32
+}
+
+// The first of the tests that fails, given whether the type is carried and its size.
+fn test(satellite: Satellite, frame: &[u8], carried: bool, size: usize) -> u32
+    requires { ⌜ carried ≡ carries satellite (typeOf satellite (now frame)) ⌝ }
+    requires { ⌜ size ≡ entryIn satellite (now frame) .size ⌝ }
+    ensures { λ r. ⌜ r ≡ refusal (frontTests satellite (now (frame .entry))) ⌝ }
+{
+    let at = satellite.type_byte_at();
+    if frame.len() <= at {
+        return refusal::SHORT;
+    }
+    if !preamble::is_right(satellite, frame) {
+        return refusal::PREAMBLE;
+    }
+    if frame[at] % 16 != satellite.address() {
+        return refusal::ADDRESS;
+    }
+    if !carried {
+        return refusal::TYPE;
+    }
+    if satellite.has_size_byte() {
+        if frame[at - 1] as usize != size {
+            return refusal::SIZE;
+        }
+    }
+    refusal::ACCEPTED
+}

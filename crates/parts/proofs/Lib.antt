@@ -1,0 +1,5 @@
+pub mod Laws
+pub mod Lent
+mod Opening
+mod Sealing
+pub mod Determined

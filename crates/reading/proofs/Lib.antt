@@ -1,0 +1,3 @@
+mod Answers
+pub mod Contracts
+pub mod Determined

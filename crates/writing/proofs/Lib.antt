@@ -1,0 +1,6 @@
+mod Preambles
+mod Laid
+mod Assembled
+mod Answers
+pub mod Contracts
+pub mod Determined
