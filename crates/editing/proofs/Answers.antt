@@ -9,7 +9,7 @@ use lib.Dec.{ltb}
 use lib.ListN.{length, take, drop, set, length-drop, drop-of-length-le, take-append-drop}
 use borrow.Author.Tests.{ltb-true}
 use Rattle.bits.specs.Bits.{bitsOf, packed, replacedAnswer}
-use Rattle.scrambler.specs.declared.Register.{Register}
+use Rattle.scrambler.specs.Scrambler.{Register}
 use Rattle.satellites.specs.declared.Satellite.{Satellite}
 use Rattle.satellites.specs.declared.Known.the-variants.{Is, Unknown}
 use Rattle.satellites.specs.Satellites.{typeByteAt}

@@ -6,7 +6,7 @@ use mathlib.Core.Path.{_≡_, refl, sym, _∙_, ap, ap₂}
 use mathlib.Core.List.{List, [], _++_, append-nil}
 use lib.ListN.{length, getD, take, drop, length-append, length-drop}
 use lib.Seq.{take-at}
-use Rattle.scrambler.specs.declared.Register.{Register}
+use Rattle.scrambler.specs.Scrambler.{Register}
 use Rattle.frames.specs.Frames.{sealed, clearBody, clear}
 use Rattle.parts.specs.Parts.{opened, sealedAfter}
 use Rattle.parts.proofs.Laws.{seals}

@@ -5,7 +5,7 @@ use mathlib.Core.List.{List, [], _∷_}
 use lib.Dec.{eqb, ltb}
 use lib.ListN.{getD}
 use Rattle.bits.specs.Bits.{replacedAnswer}
-use Rattle.scrambler.specs.declared.Register.{Register}
+use Rattle.scrambler.specs.Scrambler.{Register}
 use Rattle.layouts.specs.declared.Layout.{Layout}
 use Rattle.layouts.specs.Layouts.{widthAt, startAt}
 use Rattle.frames.specs.Tests.{Test, test, refusal}

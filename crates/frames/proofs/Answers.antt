@@ -9,7 +9,6 @@ use mathlib.Core.List.{List, _++_}
 use lib.Dec.{eqb, ltb}
 use lib.ListN.{length, drop, getD}
 use borrow.Author.Tests.{eq-eqb, eqb-true, eqb-false, ne-eqb, ltb-true, ltb-false}
-use Rattle.scrambler.specs.declared.Register.{Register}
 use Rattle.satellites.specs.declared.Satellite.{Satellite}
 use Rattle.satellites.specs.declared.Known.{Known}
 use Rattle.satellites.specs.declared.Known.the-variants.{Is, Unknown}
@@ -17,7 +16,7 @@ use Rattle.layouts.specs.Rules.{every}
 use Rattle.layouts.specs.Layouts.{entryOf, widthAt}
 use Rattle.bodies.specs.Bodies.{fitting}
 use Rattle.bodies.proofs.Laws.{fitting-below, lowest}
-use Rattle.scrambler.specs.Scrambler.{restarted}
+use Rattle.scrambler.specs.Scrambler.{Register, restarted}
 use Rattle.frames.specs.declared.Reading.{Reading}
 use Rattle.frames.specs.declared.Writing.{Writing}
 use Rattle.frames.specs.Tests.{test, refusal, AllHold}

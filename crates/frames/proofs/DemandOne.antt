@@ -24,9 +24,8 @@ use lib.Dec.{eqb}
 use lib.ListN.{length, getD, take, drop, replicate}
 use Rattle.bits.specs.Bits.{number, bitsOf}
 use Rattle.checksum.specs.Checksum.{checksum}
-use Rattle.scrambler.specs.declared.Register.{Register}
 use Rattle.scrambler.specs.declared.Direction.the-variants.{Unscramble}
-use Rattle.scrambler.specs.Scrambler.{partAnswer}
+use Rattle.scrambler.specs.Scrambler.{Register, partAnswer}
 use Rattle.satellites.specs.declared.Satellite.{Satellite}
 use Rattle.satellites.specs.declared.Known.{Known}
 use Rattle.satellites.specs.declared.Known.the-variants.{Is, Unknown}

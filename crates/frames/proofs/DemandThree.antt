@@ -12,7 +12,7 @@ use lib.ListN.{length, getD, take, drop, set, length-set}
 use lib.Seq.{set-getD, getD-take, take-at}
 use borrow.Author.Tests.{ltb-true}
 use Rattle.bits.specs.Bits.{_⊞_, bits, bitsOf, Bytes}
-use Rattle.scrambler.specs.declared.Register.{Register}
+use Rattle.scrambler.specs.Scrambler.{Register}
 use Rattle.satellites.specs.declared.Satellite.{Satellite}
 use Rattle.satellites.specs.declared.Known.the-variants.{Is}
 use Rattle.satellites.specs.Satellites.{typeByteAt}

@@ -9,7 +9,7 @@ use mathlib.Core.List.{List, [], _∷_, _++_}
 use lib.ListN.{length, getD, take, drop, replicate}
 use Rattle.bits.specs.Bits.{field, Bytes}
 use Rattle.checksum.specs.Checksum.{checksum}
-use Rattle.scrambler.specs.declared.Register.{Register}
+use Rattle.scrambler.specs.Scrambler.{Register}
 use Rattle.satellites.specs.declared.Satellite.{Satellite}
 use Rattle.satellites.specs.declared.Known.the-variants.{Is}
 use Rattle.satellites.specs.Satellites.{addressOf, trainingOf, sizeByteOf, typeByteAt}

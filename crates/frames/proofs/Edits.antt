@@ -9,7 +9,7 @@ use mathlib.Core.List.{List, [], _∷_}
 use lib.Dec.{ltb}
 use lib.ListN.{length}
 use borrow.Author.Tests.{ne-eqb, lt-ltb}
-use Rattle.scrambler.specs.declared.Register.{Register}
+use Rattle.scrambler.specs.Scrambler.{Register}
 use Rattle.satellites.specs.declared.Satellite.{Satellite}
 use Rattle.satellites.specs.declared.Known.the-variants.{Is}
 use Rattle.layouts.specs.Layouts.{widthAt}

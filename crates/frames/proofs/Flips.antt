@@ -14,9 +14,8 @@ use Rattle.bits.proofs.Bytes.{length-bitsOf, length-packed, bitsOf-append, bits
 use Rattle.bits.proofs.Xor.{⊞-append, ⊞-still}
 use Rattle.checksum.specs.Checksum.{after, checksum}
 use Rattle.checksum.proofs.Division.{checksum-difference}
-use Rattle.scrambler.specs.declared.Register.{Register}
 use Rattle.scrambler.specs.declared.Direction.the-variants.{Scramble}
-use Rattle.scrambler.specs.Scrambler.{through, allowed, partAnswer}
+use Rattle.scrambler.specs.Scrambler.{Register, through, allowed, partAnswer}
 use Rattle.scrambler.proofs.Parts.{length-answer, answer-ahead, answer-difference}
 use Rattle.satellites.specs.declared.Satellite.{Satellite}
 use Rattle.satellites.specs.Satellites.{typeByteAt}

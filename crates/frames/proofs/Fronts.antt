@@ -11,7 +11,7 @@ use lib.Dec.{eqb, ltb}
 use native.Mathlib.Nat.{add-zero}
 use lib.Seq.{getD-drop}
 use lib.ListN.{length, getD, take, drop, length-drop}
-use Rattle.scrambler.specs.declared.Register.{Register}
+use Rattle.scrambler.specs.Scrambler.{Register}
 use Rattle.scrambler.specs.declared.Direction.the-variants.{Unscramble}
 use Rattle.scrambler.proofs.Parts.{length-answer}
 use Rattle.satellites.specs.declared.Satellite.{Satellite}

@@ -2,6 +2,7 @@ pub mod Tests
 pub mod Preambles
 pub mod Parts
 pub mod Sizes
+pub mod Small
 mod Says
 pub mod Fronts
 pub mod Readings

@@ -8,9 +8,8 @@ use lib.ListN.{length, take, drop, length-append, length-take}
 use Rattle.bits.specs.Bits.{bits, inBytes}
 use Rattle.bits.proofs.Bytes.{length-packed}
 use Rattle.checksum.specs.Checksum.{checksum}
-use Rattle.scrambler.specs.declared.Register.{Register}
 use Rattle.scrambler.specs.declared.Direction.the-variants.{Scramble}
-use Rattle.scrambler.specs.Scrambler.{partAnswer}
+use Rattle.scrambler.specs.Scrambler.{Register, partAnswer}
 use Rattle.scrambler.proofs.Parts.{length-answer}
 use Rattle.frames.specs.Frames.{sealed, covered, bodyIn}
 

@@ -14,9 +14,8 @@ use Rattle.bits.proofs.Bytes.{length-bitsOf, packed-bitsOf, bitsOf-packed}
 use Rattle.bits.proofs.Fields.{take-bytes, drop-bytes}
 use Rattle.checksum.specs.Checksum.{start, after, checksum}
 use Rattle.checksum.proofs.Division.{length-after}
-use Rattle.scrambler.specs.declared.Register.{Register}
 use Rattle.scrambler.specs.declared.Direction.the-variants.{Scramble, Unscramble}
-use Rattle.scrambler.specs.Scrambler.{partAnswer}
+use Rattle.scrambler.specs.Scrambler.{Register, partAnswer}
 use Rattle.scrambler.proofs.Parts.{length-answer, answer-inverse}
 use Rattle.frames.specs.Frames.{sealed, covered, checksumIn, clearBody, clear}
 use Rattle.frames.proofs.Parts.{body-is, sum-is, length-sealed}

@@ -12,7 +12,7 @@ use Rattle.bits.specs.Bits.{bitsOf, packed, Bytes}
 use Rattle.bits.proofs.Bytes.{length-bitsOf, length-packed, packed-bitsOf, bitsOf-packed, packed-bytes}
 use Rattle.bits.proofs.Fields.{drop-bytes, take-bytes}
 use Rattle.checksum.specs.Checksum.{checksum}
-use Rattle.scrambler.specs.declared.Register.{Register}
+use Rattle.scrambler.specs.Scrambler.{Register}
 use Rattle.scrambler.specs.declared.Direction.the-variants.{Unscramble}
 use Rattle.scrambler.proofs.Parts.{bytes-answer}
 use Rattle.satellites.specs.declared.Satellite.{Satellite}

@@ -5,7 +5,7 @@ use mathlib.Core.List.{List, [], _∷_, _++_}
 use lib.ListN.{length, take, drop}
 use lib.Dec.{eqb, leb, ltb}
 use Rattle.checksum.specs.Checksum.{checksum}
-use Rattle.scrambler.specs.declared.Register.{Register}
+use Rattle.scrambler.specs.Scrambler.{Register}
 use Rattle.satellites.specs.declared.Satellite.{Satellite}
 use Rattle.satellites.specs.declared.Known.{Known}
 use Rattle.satellites.specs.declared.Known.the-variants.{Is, Unknown}

@@ -9,7 +9,7 @@ use mathlib.Core.List.{List}
 use lib.ListN.{length, getD, take}
 use lib.Seq.{length-take-le}
 use borrow.Author.Tests.{le-leb, lt-leb, eq-eqb, ne-eqb}
-use Rattle.scrambler.specs.declared.Register.{Register}
+use Rattle.scrambler.specs.Scrambler.{Register}
 use Rattle.frames.specs.Frames.{sealed, bodyIn}
 use Rattle.frames.specs.Reading.{checksumRight}
 use Rattle.parts.specs.Parts.{fits, opened, opensRight, copyAfter, sealedAfter}

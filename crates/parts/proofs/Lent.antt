@@ -6,7 +6,7 @@ use mathlib.Core.Path.{_≡_, sym, _∙_, ap, ap₂}
 use mathlib.Core.List.{List, [], _∷_, _++_, append-nil, append-assoc}
 use lib.ListN.{length, take, drop, set, drop-of-length-le, length-append, length-drop}
 use lib.Seq.{take-at, take-length}
-use Rattle.scrambler.specs.declared.Register.{Register}
+use Rattle.scrambler.specs.Scrambler.{Register}
 use Rattle.scrambler.specs.declared.Direction.the-variants.{Unscramble}
 use Rattle.scrambler.proofs.Parts.{length-answer}
 use Rattle.frames.specs.Frames.{bodyIn, clearBody, clear}

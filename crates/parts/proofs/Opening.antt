@@ -9,9 +9,8 @@ use lib.Seq.{take-all, take-at}
 use Rattle.bits.specs.Bits.{number, bitsOf, field, fieldAnswer}
 use Rattle.bits.proofs.Bytes.{length-bitsOf}
 use Rattle.bits.proofs.Fields.{is-field}
-use Rattle.scrambler.specs.declared.Register.{Register}
 use Rattle.scrambler.specs.declared.Direction.the-variants.{Unscramble}
-use Rattle.scrambler.specs.Scrambler.{partAnswer}
+use Rattle.scrambler.specs.Scrambler.{Register, partAnswer}
 use Rattle.frames.specs.Frames.{checksumIn, clearBody, clear}
 use Rattle.frames.proofs.Parts.{sum-is}
 use Rattle.parts.specs.Parts.{opened}
@@ -41,13 +40,13 @@ module _ (r : Register) where
       (ap₂ _++_ (e ∙ ap (partAnswer Unscramble r) (lent-body-is x xs m long)) (sym (sum-is x xs m long)))
 
   -- the same in a copy
-  pub copy-unscrambled : (sent copy ys : List ℕ) (q : Register) → 3 ≤ length sent → copy ≡ sent → q ≡ r
-      → ys ≡ partAnswer Unscramble q (take (length sent - 2 - 1) (drop 1 copy))
+  pub copy-unscrambled : (sent copy ys : List ℕ) → 3 ≤ length sent → copy ≡ sent
+      → ys ≡ partAnswer Unscramble r (take (length sent - 2 - 1) (drop 1 copy))
       → take 1 copy ++ (ys ++ drop (length sent - 2 - 1) (drop 1 copy)) ≡ opened r sent
-  copy-unscrambled sent copy ys q h whole its e =
+  copy-unscrambled sent copy ys h whole e =
       let n = length sent - 2 - 1 in
       ap (λ (l : List ℕ). take 1 l ++ (ys ++ drop n (drop 1 l))) whole
-      ∙ unscrambled-is sent ys h (e ∙ ap₂ (λ (p : Register) (l : List ℕ). partAnswer Unscramble p (take n (drop 1 l))) its whole)
+      ∙ unscrambled-is sent ys h (e ∙ ap (λ (l : List ℕ). partAnswer Unscramble r (take n (drop 1 l))) whole)
 
   pub clear-front : (part : List ℕ) → 3 ≤ length part
       → take (length part - 2 - 0) (opened r part) ≡ clear r part

@@ -10,9 +10,8 @@ use lib.Seq.{take-all, take-at, drop-at}
 use Rattle.bits.specs.Bits.{bits, packed, inBytes}
 use Rattle.bits.proofs.Numbers.{number-bits, bits-append, length-bits}
 use Rattle.checksum.specs.Checksum.{checksum}
-use Rattle.scrambler.specs.declared.Register.{Register}
 use Rattle.scrambler.specs.declared.Direction.the-variants.{Scramble}
-use Rattle.scrambler.specs.Scrambler.{partAnswer}
+use Rattle.scrambler.specs.Scrambler.{Register, partAnswer}
 use Rattle.scrambler.proofs.Parts.{length-answer}
 use Rattle.frames.specs.Frames.{sealed, bodyIn}
 use Rattle.frames.proofs.Parts.{end-is, body-is, body-length}

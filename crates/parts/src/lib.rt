@@ -4,7 +4,9 @@
 ghost use mathlib.Core.Path.{_≡_};
 ghost use Rattle.scrambler.specs.Scrambler.{restarted};
 ghost use Rattle.parts.specs.Parts.{opensRight, copyAfter, sealedAfter};
-use scrambler::Register;
+use scrambler::FAR;
+use scrambler::NEAR;
+use scrambler::START;
 
 // A size byte can hold the length of any part.
 pub const MOST_BYTES: usize = 255;
@@ -25,7 +27,7 @@ pub fn unscrambled(sent: &[u8], copy: &mut [u8]) -> bool
     }
     let end = sent.len() - 2;
     bytes::copy(sent, copy);
-    Register::restarted().unscramble(&mut copy[1..end]);
+    scrambler::unscramble(NEAR, FAR, START, &mut copy[1..end]);
     bits::read_field(&sent[end..], 0, 16) == checksum::of(&copy[0..end]) as u32
 }
 
@@ -38,7 +40,7 @@ pub fn seal(part: &mut [u8])
     }
     let end = part.len() - 2;
     let sum = checksum::of(&part[0..end]);
-    Register::restarted().scramble(&mut part[1..end]);
+    scrambler::scramble(NEAR, FAR, START, &mut part[1..end]);
     part[end] = (sum / 256) as u8;
     part[end + 1] = (sum % 256) as u8;
 }

@@ -9,7 +9,7 @@ use mathlib.Core.List.{List, [], _++_}
 use lib.ListN.{length, drop}
 use borrow.Author.Tests.{lt-leb}
 use Rattle.bits.specs.Bits.{bitsOf}
-use Rattle.scrambler.specs.declared.Register.{Register}
+use Rattle.scrambler.specs.Scrambler.{Register}
 use Rattle.satellites.specs.declared.Satellite.{Satellite}
 use Rattle.satellites.specs.declared.Known.the-variants.{Is, Unknown}
 use Rattle.layouts.specs.Layouts.{layoutOf}

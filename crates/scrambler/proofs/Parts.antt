@@ -15,10 +15,11 @@ use Rattle.bits.specs.Bits.{_⊞_, number, bitsOf, packed, Bytes}
 use Rattle.bits.proofs.Numbers.{bits-of}
 use Rattle.bits.proofs.Bytes.{length-bitsOf, length-packed, bitsOf-append, packed-bitsOf, bitsOf-packed, packed-append, packed-bytes}
 use Rattle.scrambler.specs.declared.Direction.{Direction}
-use Rattle.scrambler.specs.declared.Register.{Register}
-use Rattle.scrambler.specs.Scrambler.{through, sentAfter, remembered, allowed, partThrough, registerThrough, partAnswer, registerAnswer}
+use Rattle.scrambler.specs.Scrambler.{Register, through, sentAfter, remembered, allowed}
+use Rattle.scrambler.specs.Scrambler.{partThrough, registerThrough, partAnswer, registerAnswer}
 use Rattle.scrambler.proofs.Held.{length-remembered}
-use Rattle.scrambler.proofs.Laws.{Alike, opposite, inverse, length-through, length-sentAfter, through-append, sentAfter-append, through-take, through-difference, through-alike, sentAfter-alike}
+use Rattle.scrambler.proofs.Laws.{Alike, opposite, inverse, length-through, length-sentAfter, through-append, sentAfter-append}
+use Rattle.scrambler.proofs.Laws.{through-take, through-difference, through-alike, sentAfter-alike}
 
 module _ (way : Direction) (r : Register) where
   abbrev start : List Bool

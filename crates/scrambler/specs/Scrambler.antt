@@ -9,7 +9,6 @@ use lib.Dec.{leb, ltb}
 use Rattle.bits.specs.Bits.{_⊕_, bits, number, bitsOf, packed}
 use Rattle.scrambler.specs.declared.Direction.{Direction}
 use Rattle.scrambler.specs.declared.Direction.the-variants.{Scramble, Unscramble}
-use Rattle.scrambler.specs.declared.Register.{Register}
 
 -- the sent bit so many places earlier
 abbrev pub earlier : ℕ → List Bool → Bool
@@ -35,6 +34,15 @@ unfoldable pub sentAfter : Direction → ℕ → ℕ → List Bool → List Bool
 sentAfter way near far sent [] = sent
 sentAfter way near far sent (b ∷ bs) = sentAfter way near far (onAir way b (crossed near far sent b) ∷ sent) bs
 
+-- two distances, and the far latest sent bits as a number
+pub record Register : Type 0 where
+  pub near : ℕ
+  pub far : ℕ
+  pub sent : ℕ
+
+abbrev pub from : ℕ → ℕ → ℕ → Register
+from near far sent = record { near = near; far = far; sent = sent }
+
 -- the sent bits that a number of `far` bits stands for: its highest bit is the earliest
 abbrev pub remembered : ℕ → ℕ → List Bool
 remembered far n = reverse (bits far n)
@@ -51,7 +59,7 @@ START = 0x2C350000 % 2 ^ FAR
 
 -- restarted for each frame
 abbrev pub restarted : Register
-restarted = record { near = NEAR; far = FAR; sent = START }
+restarted = from NEAR FAR START
 
 -- near at least 1, near below far, far at most 32
 unfoldable pub allowed : Register → Bool

@@ -1,28 +1,25 @@
 // The walk over a part: bytes, and in each byte its bits, most significant first.
 use crate::Direction;
-use crate::Register;
 ghost use mathlib.Core.Path.{_≡_};
 ghost use Prim.Native.Nat.{_-_, _/_, _%_, _^_, _≤_, _<_};
 ghost use Rattle.bits.specs.Bits.{odd, _⊕_};
-ghost use Rattle.scrambler.specs.Scrambler.{onAir, Passes};
+ghost use Rattle.scrambler.specs.Scrambler.{onAir, from, Passes};
 ghost use Rattle.scrambler.specs.Walk.{Taps, PassesByte};
 
 // The part goes through the register. Distances that are not allowed leave both as they are.
-pub(crate) fn pass(register: Register, way: Direction, part: &mut [u8]) -> Register
-    ensures { λ r. ⌜ Passes way register (now (part .entry)) r (now (part .exit)) ⌝ }
+pub(crate) fn pass(way: Direction, near: u32, far: u32, start: u32, part: &mut [u8]) -> u32
+    ensures { λ r. ⌜ Passes way (from near far start) (now (part .entry)) (from near far r) (now (part .exit)) ⌝ }
 {
-    let near = register.near;
-    let far = register.far;
     if near < 1 {
-        return register;
+        return start;
     }
     if far <= near {
-        return register;
+        return start;
     }
     if 32 < far {
-        return register;
+        return start;
     }
-    let mut sent = register.sent;
+    let mut sent = start;
     let mut i = 0;
     while i < part.len() {
         let p = pass_byte(way, near, far, sent, part[i]);
@@ -30,11 +27,7 @@ pub(crate) fn pass(register: Register, way: Direction, part: &mut [u8]) -> Regis
         sent = p.sent;
         i += 1;
     }
-    Register {
-        near,
-        far,
-        sent: lowest(far, sent),
-    }
+    lowest(far, sent)
 }
 
 // What a byte leaves: the sent bits, the latest the lowest, and the byte that comes out.

@@ -4,7 +4,6 @@ use crate::text;
 use libc::STDOUT_FILENO;
 use satellites::Known;
 use satellites::Satellite;
-use scrambler::Register;
 
 pub(crate) fn answer(line: &[u8]) {
     if line.len() == 0 {
@@ -53,37 +52,30 @@ fn malformed() {
     io::write_all(STDOUT_FILENO, b"?");
 }
 
-// The register that the first six bytes give: near, far, and four bytes of sent bits.
-fn register(data: &[u8]) -> Register {
-    Register {
-        near: bits::read_field(data, 0, 8),
-        far: bits::read_field(data, 8, 8),
-        sent: bits::read_field(data, 16, 32),
-    }
-}
-
-// Through the register, one way or back.
+// Through the register, one way or back. The first six bytes give it: near, far, and four bytes of sent bits.
 fn pass(data: &mut [u8], back: bool) {
     if data.len() < 6 {
         malformed();
         return;
     }
-    let before = register(data);
+    let near = bits::read_field(data, 0, 8);
+    let far = bits::read_field(data, 8, 8);
+    let start = bits::read_field(data, 16, 32);
     if back {
-        let after = before.unscramble(&mut data[6..]);
-        print_part(data, after);
+        let sent = scrambler::unscramble(near, far, start, &mut data[6..]);
+        print_part(data, sent);
     } else {
-        let after = before.scramble(&mut data[6..]);
-        print_part(data, after);
+        let sent = scrambler::scramble(near, far, start, &mut data[6..]);
+        print_part(data, sent);
     }
 }
 
-fn print_part(data: &[u8], after: Register) {
+fn print_part(data: &[u8], sent: u32) {
     if 6 < data.len() {
         hex::print(&data[6..]);
         io::write_all(STDOUT_FILENO, b" ");
     }
-    hex::print_number(after.sent, 4);
+    hex::print_number(sent, 4);
 }
 
 fn field(data: &[u8]) {

@@ -1,36 +1,44 @@
--- `checksum::shifted` meets its contract: the test finds the highest bit.
+-- `checksum::shifted` meets its contract: the quotient is the highest bit.
 -- Assumes nothing.
-use mathlib.Core.Path.{_≡_, sym, _∙_}
-use mathlib.Core.Bool.{true, false}
-use Prim.Native.Nat.{ℕ, _*_, _/_, _%_, _≤_, _<_}
+use mathlib.Core.Path.{_≡_, refl, ap, _∙_}
+use mathlib.Core.Bool.{Bool, true, false, cond}
+use Prim.Native.Nat.{ℕ, _*_, _/_, _%_, _<_}
 use native.Mathlib.Omega.{arith}
-use lib.Bits.{xor-zero-r}
-use Rattle.bits.specs.Bits.{odd}
+use mir.Syntax.{w16}
+use mir.Val.{Fits}
+use lib.Bits.{bitXor}
+use lib.Dec.{ltb}
+use Rattle.bits.specs.Bits.{odd, bits, number}
+use Rattle.checksum.specs.Checksum.{polynomial, divided}
 use Rattle.checksum.proofs.Register.{shifted-is}
 use borrow.Author.Needs.{needs}
+use borrow.Author.Tests.{ltb-true, ltb-false}
 use Rattle.checksum.proofs.shifted.Statement.{statement}
 use Rattle.checksum.proofs.shifted.Tie as tie
 
 mul-moved : tie.Need-mul-moved
 mul-moved c = search needs
 
-low : (r : ℕ) → r < 32768 → odd (r / 32768) ≡ false
-unfolding odd
-low r h = let e : r / 32768 ≡ 0 = omega arith in rw e
+mul-result : tie.Need-mul-result
+mul-result c = search needs
 
-high : (r : ℕ) → 32768 ≤ r → r < 65536 → odd (r / 32768) ≡ true
+by-quotient : (r q : ℕ) (top : Bool) → r / 32768 ≡ q → odd q ≡ top → q * polynomial ≡ cond top polynomial 0
+    → bitXor (r % 32768 * 2) (r / 32768 * polynomial) ≡ number (divided (bits 16 r) false)
+by-quotient r q top e f g =
+    ap (bitXor (r % 32768 * 2)) (ap (λ (n : ℕ). n * polynomial) e ∙ g) ∙ shifted-is r top (ap odd e ∙ f)
+
+shifted-by : (r : ℕ) → r < 65536 → bitXor (r % 32768 * 2) (r / 32768 * polynomial) ≡ number (divided (bits 16 r) false)
 unfolding odd
-high r h k = let e : r / 32768 ≡ 1 = omega arith in rw e
+shifted-by r small = go (ltb r 32768) refl
+  where
+    go : (b : Bool) → ltb r 32768 ≡ b → bitXor (r % 32768 * 2) (r / 32768 * polynomial) ≡ number (divided (bits 16 r) false)
+    go true e = let low = ltb-true r 32768 e in by-quotient r 0 false (omega arith) refl refl
+    go false e = let high = ltb-false r 32768 e in by-quotient r 1 true (omega arith) refl refl
 
 returns : tie.Need-returns
 returns c =
-    let r = c .before .args .register in
-    sym (xor-zero-r (r % 32768 * 2)) ∙ shifted-is r false (low r (omega arith))
-
-returns-2 : tie.Need-returns-2
-returns-2 c =
-    let r = c .before .args .register in
-    shifted-is r true (high r (omega arith) (omega arith))
+    let small : Fits w16 (c .args .register) = search needs in
+    shifted-by (c .args .register) (small .fits)
 
 pub shifted-spec : {M : Type 1} → statement M
-shifted-spec = tie.close (tie.spec mul-moved returns returns-2)
+shifted-spec = tie.close (tie.spec mul-moved mul-result returns)

@@ -9,7 +9,6 @@ use lib.Seq.{lt-length-set}
 use mir.Val.{Fits}
 use mir.Syntax.{w16}
 use denote.Ref.{now}
-use Rattle.scrambler.specs.declared.Register.{Register}
 use Rattle.scrambler.specs.declared.Direction.the-variants.{Scramble}
 use Rattle.scrambler.specs.Scrambler.{restarted, partAnswer}
 use Rattle.frames.specs.Frames.{bodyIn}
@@ -39,9 +38,6 @@ part-of-end c = search needs
 of-requires : tie.Need-of-requires
 of-requires c κs = search needs
 
-restarted-requires : tie.Need-restarted-requires
-restarted-requires c κs = search needs
-
 sub-scramble : tie.Need-sub-scramble
 sub-scramble c = search needs
 
@@ -69,7 +65,7 @@ add-part c = search needs
 -- the body is scrambled: the part as it was given, and what was made of it
 module _ (c : tie.After-scramble) where
   abbrev summed : tie.After-of
-  summed = c .before .before .before
+  summed = c .before .before
 
   abbrev past : tie.Else1
   past = summed .before .before .before
@@ -85,12 +81,10 @@ module _ (c : tie.After-scramble) where
   enough = omega (arith, past .if1 .left)
 
   abbrev body : List ℕ
-  body = c .scramble .last .1 .0
+  body = c .scramble .last .1 .1 .1 .0
 
   body-is : body ≡ partAnswer Scramble restarted (lent part)
-  body-is =
-      c .scramble .ensures .bytes
-      ∙ ap (λ (r : Register). partAnswer Scramble r (lent part)) (c .before .before .restarted .ensures)
+  body-is = c .scramble .ensures .bytes
 
 slice-write-part-2 : tie.Need-slice-write-part-2
 slice-write-part-2 c =
@@ -123,7 +117,6 @@ seal-spec =
     part-of-start
     part-of-end
     of-requires
-    restarted-requires
     sub-scramble
     part-scramble-start
     part-scramble-end

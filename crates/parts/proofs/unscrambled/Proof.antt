@@ -33,9 +33,6 @@ sub-end c = search needs
 copy-requires : tie.Need-copy-requires
 copy-requires c κs = search needs
 
-restarted-requires : tie.Need-restarted-requires
-restarted-requires c κs = search needs
-
 sub-unscramble : tie.Need-sub-unscramble
 sub-unscramble c = search needs
 
@@ -80,11 +77,8 @@ same-length c = search needs
 
 -- the copy, once its body is unscrambled
 module _ (c : tie.After-unscramble) where
-  abbrev fresh : tie.After-restarted
-  fresh = c .before .before
-
   abbrev whole : tie.After-copy
-  whole = fresh .before .before .before
+  whole = c .before .before .before .before
 
   abbrev past : tie.Else2
   past = whole .before .before
@@ -109,13 +103,12 @@ module _ (c : tie.After-unscramble) where
   copy = whole .copy .last .1 .0
 
   abbrev body : List ℕ
-  body = c .unscramble .last .1 .0
+  body = c .unscramble .last .1 .1 .1 .0
 
   left : take 1 copy ++ (body ++ drop (end - 1) (drop 1 copy)) ≡ opened restarted sent
   left =
-      copy-unscrambled restarted sent copy body (fresh .restarted .result) enough
-      (whole .copy .ensures .1 ∙ copied sent (now (start .args .copy)) as-long)
-      (fresh .restarted .ensures) (c .unscramble .ensures .bytes)
+      copy-unscrambled restarted sent copy body enough
+      (whole .copy .ensures .1 ∙ copied sent (now (start .args .copy)) as-long) (c .unscramble .ensures .bytes)
 
 returns-3 : tie.Need-returns-3
 returns-3 c =
@@ -136,7 +129,6 @@ unscrambled-spec =
     returns-2
     sub-end
     copy-requires
-    restarted-requires
     sub-unscramble
     part-unscramble-start
     part-unscramble-end

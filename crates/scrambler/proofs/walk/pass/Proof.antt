@@ -1,16 +1,15 @@
 -- `scrambler::walk::pass` meets its contract. The invariant: the part is on its way through the register.
 -- Assumes nothing.
-use mathlib.Core.Path.{_≡_, refl, sym, _∙_}
+use mathlib.Core.Path.{_≡_, refl, sym, ap, _∙_}
 use mathlib.Core.Bool.{true, false}
-use Prim.Native.Nat.{_-_, _≤_, _<_}
+use Prim.Native.Nat.{ℕ, _-_, _≤_, _<_}
 use native.Mathlib.Nat.{le-of-eq}
 use native.Mathlib.Omega.{arith}
 use borrow.Author.Needs.{needs}
 use borrow.Author.Tests.{le-leb, lt-leb, lt-ltb, le-ltb}
 use lib.ListN.{length, length-set}
 use denote.Ref.{now}
-use Rattle.scrambler.specs.declared.Register.{Register}
-use Rattle.scrambler.specs.Scrambler.{remembered, allowed}
+use Rattle.scrambler.specs.Scrambler.{from, remembered, allowed}
 use Rattle.scrambler.specs.Walk.{Taps}
 use Rattle.scrambler.proofs.Held.{held-start, length-remembered}
 use Rattle.scrambler.proofs.Passing.{Passing, passing-start, passing-next, passing-end}
@@ -18,58 +17,60 @@ use Rattle.scrambler.proofs.walk.pass.Statement.{statement}
 use Rattle.scrambler.proofs.walk.pass.Tie as tie
 
 abbrev Inv-loop : tie.InvT-loop
-Inv-loop way part₀ near far sent₀ i₀ part sent i =
-    (i ≤ length part) × ((length part ≡ length part₀) × Passing way near far (remembered far sent₀) part₀ part sent i)
+Inv-loop way near far start part₀ sent₀ i₀ part sent i =
+    (i ≤ length part) × ((length part ≡ length part₀) × Passing way near far (remembered far start) part₀ part sent i)
 
 abbrev μ-loop : tie.MeasureT-loop
-μ-loop way part₀ near far sent₀ i₀ part sent i = length part - i
+μ-loop way near far start part₀ sent₀ i₀ part sent i = length part - i
 
 -- the tests that the code makes, one after the other, are those of `allowed`
-module _ (r : Register) where
-  none-near : r .near < 1 → allowed r ≡ false
+module _ (near far start : ℕ) where
+  none-near : near < 1 → allowed (from near far start) ≡ false
   unfolding allowed
-  none-near h = rw (lt-leb 1 (r .near) h)
+  none-near h = rw (lt-leb 1 near h)
 
-  not-ordered : 1 ≤ r .near → r .far ≤ r .near → allowed r ≡ false
+  not-ordered : 1 ≤ near → far ≤ near → allowed (from near far start) ≡ false
   unfolding allowed
-  not-ordered g h = rw (le-leb 1 (r .near) g, le-ltb (r .near) (r .far) h)
+  not-ordered g h = rw (le-leb 1 near g, le-ltb near far h)
 
-  too-far : 1 ≤ r .near → r .near < r .far → 32 < r .far → allowed r ≡ false
+  too-far : 1 ≤ near → near < far → 32 < far → allowed (from near far start) ≡ false
   unfolding allowed
-  too-far g h k = rw (le-leb 1 (r .near) g, lt-ltb (r .near) (r .far) h, lt-leb (r .far) 32 k)
+  too-far g h k = rw (le-leb 1 near g, lt-ltb near far h, lt-leb far 32 k)
 
-  taps-allowed : Taps (r .near) (r .far) → allowed r ≡ true
+  taps-allowed : Taps near far → allowed (from near far start) ≡ true
   unfolding allowed
-  taps-allowed t = rw (le-leb 1 (r .near) (t .least), lt-ltb (r .near) (r .far) (t .ordered), le-leb (r .far) 32 (t .most))
+  taps-allowed t = rw (le-leb 1 near (t .least), lt-ltb near far (t .ordered), le-leb far 32 (t .most))
 
 taps : (c : tie.Else3 Inv-loop μ-loop)
-    → Taps (c .before .before .before .before .args .register .near) (c .before .before .before .before .args .register .far)
+    → Taps (c .before .before .before .before .args .near) (c .before .before .before .before .args .far)
 taps c = record { least = omega arith; ordered = omega arith; most = omega arith }
 
 returns : tie.Need-returns Inv-loop μ-loop
 returns c =
-    let no = none-near (c .before .before .args .register) (c .if1 .taken) in
+    let a = c .before .before .args in
+    let no = none-near (a .near) (a .far) (a .start) (c .if1 .taken) in
     record { register = rw no; bytes = rw no }
 
 returns-2 : tie.Need-returns-2 Inv-loop μ-loop
 returns-2 c =
-    let no = not-ordered (c .before .before .before .args .register) (c .before .if1 .left) (c .if2 .taken) in
+    let a = c .before .before .before .args in
+    let no = not-ordered (a .near) (a .far) (a .start) (c .before .if1 .left) (c .if2 .taken) in
     record { register = rw no; bytes = rw no }
 
 returns-3 : tie.Need-returns-3 Inv-loop μ-loop
 returns-3 c =
-    let no = too-far (c .before .before .before .before .args .register) (c .before .before .if1 .left) (c .before .if2 .left) (c .if3 .taken) in
+    let a = c .before .before .before .before .args in
+    let no = too-far (a .near) (a .far) (a .start) (c .before .before .if1 .left) (c .before .if2 .left) (c .if3 .taken) in
     record { register = rw no; bytes = rw no }
 
 loop-holds : tie.Need-loop-holds Inv-loop μ-loop
 loop-holds c =
-    let a = c .before .before .before .before .args in
-    let r = a .register in (
+    let a = c .before .before .before .before .args in (
       omega arith,
       (
         refl,
-        passing-start (a .way) (r .near) (r .far) (remembered (r .far) (r .sent)) (now (a .part)) (r .sent)
-            (held-start (r .far) (r .sent)) (le-of-eq (sym (length-remembered (r .far) (r .sent)))),
+        passing-start (a .way) (a .near) (a .far) (remembered (a .far) (a .start)) (now (a .part)) (a .start)
+            (held-start (a .far) (a .start)) (le-of-eq (sym (length-remembered (a .far) (a .start)))),
       ),
     )
 
@@ -91,12 +92,11 @@ loop-less c = simp length-set (omega arith)
 loop-again : tie.Need-loop-again Inv-loop μ-loop
 loop-again c =
     let a = c .before .before .before .before .before .before .before .before .args in
-    let l = c .before .before .before .loop in
-    let r = a .register in (
+    let l = c .before .before .before .loop in (
       simp length-set (omega arith),
       (
         length-set (l .part) (l .i) (c .pass-byte .result .byte) ∙ l .inv .1 .0,
-        passing-next (a .way) (r .near) (r .far) (remembered (r .far) (r .sent)) (now (a .part)) (l .part) (l .sent) (l .i)
+        passing-next (a .way) (a .near) (a .far) (remembered (a .far) (a .start)) (now (a .part)) (l .part) (l .sent) (l .i)
             (c .pass-byte .result .sent) (c .pass-byte .result .byte) (c .before .before .loop-test .taken)
             (c .pass-byte .ensures) (l .inv .1 .1),
       ),
@@ -112,15 +112,11 @@ returns-4 : tie.Need-returns-4 Inv-loop μ-loop
 returns-4 c =
     let a = c .before .before .before .before .before .before .before .args in
     let l = c .before .before .loop in
-    let r = a .register in
-    let yes = taps-allowed r (taps (c .before .before .before)) in
-    let first = remembered (r .far) (r .sent) in
+    let yes = taps-allowed (a .near) (a .far) (a .start) (taps (c .before .before .before)) in
+    let first = remembered (a .far) (a .start) in
     let end =
-    passing-end (a .way) (r .near) (r .far) first (now (a .part)) (l .part) (l .sent) (l .i) (c .before .loop-test .left) (l .inv .1 .1) in
-    record {
-      register = rw yes (λ k. record { near = r .near; far = r .far; sent = (c .lowest .ensures ∙ end .0) k });
-      bytes = rw yes (end .1);
-    }
+    passing-end (a .way) (a .near) (a .far) first (now (a .part)) (l .part) (l .sent) (l .i) (c .before .loop-test .left) (l .inv .1 .1) in
+    record { register = rw yes (ap (from (a .near) (a .far)) (c .lowest .ensures ∙ end .0)); bytes = rw yes (end .1) }
 
 pub pass-spec : {M : Type 1} → statement M
 pass-spec =
