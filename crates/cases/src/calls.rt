@@ -1,10 +1,10 @@
 // The calls on frames: what is lent, the call itself, and the answer's text.
+use crate::call;
 use crate::degrees;
-use crate::digits::GREATEST;
 use crate::marks;
 use crate::page;
-use crate::words;
 use frames::Writing;
+use words::GREATEST;
 
 // No more places, bytes, values or codes are lent.
 const MOST: usize = 256;
@@ -17,13 +17,13 @@ pub(crate) fn answer(call: &[u8], page: &mut [u8]) -> usize {
 }
 
 fn ask(call: &[u8], page: &mut [u8], numbers: &mut [u32], bytes: &mut [u8]) -> usize {
-    if words::are(call, b"read", 3) {
+    if call::is(call, b"read", 4) {
         return read(call, page, numbers, bytes);
     }
-    if words::are(call, b"write", 4) {
+    if call::is(call, b"write", 5) {
         return write(call, page, numbers, bytes);
     }
-    if words::are(call, b"edit", 4) {
+    if call::is(call, b"edit", 5) {
         return edit(call, page, bytes);
     }
     degrees::ask(call, page, numbers, bytes)
@@ -34,7 +34,7 @@ pub(crate) fn not_understood(page: &mut [u8]) -> usize {
 }
 
 fn read(call: &[u8], page: &mut [u8], room: &mut [u32], bytes: &mut [u8]) -> usize {
-    let n = words::bytes(call, 3, bytes);
+    let n = call::bytes(call, 3, bytes);
     if bytes.len() < n {
         return not_understood(page);
     }
@@ -42,11 +42,11 @@ fn read(call: &[u8], page: &mut [u8], room: &mut [u32], bytes: &mut [u8]) -> usi
 }
 
 fn read_frame(call: &[u8], page: &mut [u8], frame: &[u8], room: &mut [u32]) -> usize {
-    let satellite = words::number(call, 1);
+    let satellite = call::number(call, 1);
     if GREATEST < satellite {
         return not_understood(page);
     }
-    let lent = words::number(call, 2);
+    let lent = call::number(call, 2);
     if room.len() < lent {
         return not_understood(page);
     }
@@ -63,7 +63,7 @@ fn read_lent(page: &mut [u8], satellite: u32, frame: &[u8], room: &mut [u32]) ->
 }
 
 fn write(call: &[u8], page: &mut [u8], numbers: &mut [u32], output: &mut [u8]) -> usize {
-    let n = words::numbers(call, 4, numbers);
+    let n = call::numbers(call, 4, numbers);
     if numbers.len() < n {
         return not_understood(page);
     }
@@ -71,15 +71,15 @@ fn write(call: &[u8], page: &mut [u8], numbers: &mut [u32], output: &mut [u8]) -
 }
 
 fn write_values(call: &[u8], page: &mut [u8], values: &[u32], output: &mut [u8]) -> usize {
-    let satellite = words::number(call, 1);
+    let satellite = call::number(call, 1);
     if GREATEST < satellite {
         return not_understood(page);
     }
-    let ty = words::number(call, 2);
+    let ty = call::number(call, 2);
     if GREATEST < ty {
         return not_understood(page);
     }
-    let lent = words::number(call, 3);
+    let lent = call::number(call, 3);
     if output.len() < lent {
         return not_understood(page);
     }
@@ -111,7 +111,7 @@ fn put_writing(page: &mut [u8], writing: Writing) -> usize {
 }
 
 fn edit(call: &[u8], page: &mut [u8], bytes: &mut [u8]) -> usize {
-    let n = words::bytes(call, 4, bytes);
+    let n = call::bytes(call, 4, bytes);
     if bytes.len() < n {
         return not_understood(page);
     }
@@ -119,15 +119,15 @@ fn edit(call: &[u8], page: &mut [u8], bytes: &mut [u8]) -> usize {
 }
 
 fn edit_frame(call: &[u8], page: &mut [u8], frame: &mut [u8]) -> usize {
-    let satellite = words::number(call, 1);
+    let satellite = call::number(call, 1);
     if GREATEST < satellite {
         return not_understood(page);
     }
-    let field = words::number(call, 2);
+    let field = call::number(call, 2);
     if GREATEST < field {
         return not_understood(page);
     }
-    let value = words::number(call, 3);
+    let value = call::number(call, 3);
     if GREATEST < value {
         return not_understood(page);
     }

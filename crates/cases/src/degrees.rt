@@ -1,8 +1,7 @@
 // The calls about temperatures, and the way from a frame to its ten.
+use crate::call;
 use crate::calls;
-use crate::digits::GREATEST;
 use crate::page;
-use crate::words;
 use frames::refusal;
 use satellites::Known;
 use satellites::Satellite;
@@ -10,25 +9,26 @@ use temperatures::Answer;
 use temperatures::Day;
 use temperatures::Reading;
 use temperatures::SENSORS;
+use words::GREATEST;
 
 // The type whose fields are temperatures alone, but for a clock.
 const TEMPERATURES: u32 = 2;
 
 pub(crate) fn ask(call: &[u8], page: &mut [u8], numbers: &mut [u32], bytes: &mut [u8]) -> usize {
-    if words::are(call, b"temperature", 1) {
+    if call::is(call, b"temperature", 2) {
         return temperature(call, page);
     }
-    if words::are(call, b"summary", 1) {
+    if call::is(call, b"summary", 2) {
         return summary(call, page, numbers);
     }
-    if words::are(call, b"day", 2) {
+    if call::is(call, b"day", 3) {
         return day(call, page, numbers, bytes);
     }
     calls::not_understood(page)
 }
 
 fn temperature(call: &[u8], page: &mut [u8]) -> usize {
-    let code = words::number(call, 1);
+    let code = call::number(call, 1);
     if GREATEST < code {
         return calls::not_understood(page);
     }
@@ -53,7 +53,7 @@ fn put_told(page: &mut [u8], number: u32, kind: &[u8], degrees: f32) -> usize {
 }
 
 fn summary(call: &[u8], page: &mut [u8], numbers: &mut [u32]) -> usize {
-    let n = words::numbers(call, 1, numbers);
+    let n = call::numbers(call, 1, numbers);
     if numbers.len() < n {
         return calls::not_understood(page);
     }
@@ -70,11 +70,11 @@ fn put_day(page: &mut [u8], day: Day) -> usize {
 }
 
 fn day(call: &[u8], page: &mut [u8], room: &mut [u32], bytes: &mut [u8]) -> usize {
-    let number = words::number(call, 1);
+    let number = call::number(call, 1);
     if GREATEST < number {
         return calls::not_understood(page);
     }
-    let n = words::bytes(call, 2, bytes);
+    let n = call::bytes(call, 2, bytes);
     if bytes.len() < n {
         return calls::not_understood(page);
     }

@@ -3,8 +3,8 @@ ghost use mathlib.Core.Path.{_≡_};
 ghost use mathlib.Core.Bool.{true};
 ghost use Prim.Native.Nat.{_≤_};
 ghost use lib.ListN.{length};
+use crate::call;
 use crate::calls;
-use crate::words;
 use libc::STDOUT_FILENO;
 
 // How many lines, cases, and cases that differ there were so far, and how many bytes of the next line are held: more than there
@@ -126,7 +126,7 @@ fn controlled(text: &[u8], line: u64, page: &mut [u8]) -> Verdict {
 }
 
 fn judged(text: &[u8], line: u64, page: &mut [u8]) -> Verdict {
-    if words::until(text, 0, b'|') == text.len() {
+    if call::until(text, 0, b'|') == text.len() {
         print_answered(text, page);
         return Verdict::NoCase;
     }
@@ -145,7 +145,7 @@ const BAR: usize = 3;
 fn parted(text: &[u8]) -> usize
     ensures { λ r. ⌜ r ≤ length (now (text .entry)) ⌝ }
 {
-    let bar = words::until(text, 0, b'|');
+    let bar = call::until(text, 0, b'|');
     if bar < 1 {
         return text.len();
     }

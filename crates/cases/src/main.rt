@@ -17,13 +17,12 @@
 // A line that begins with '#', and an empty one, is no case. One that begins with '!' is a case whose answer is wrong on purpose, and
 // must be told from the right one. A call with nothing behind it is answered. A call that is not understood, or lends more than
 // `calls::MOST`, has the answer `?`, which agrees with nothing. The last line says how many cases there were and how many differ.
+mod call;
 mod calls;
 mod degrees;
-mod digits;
 mod line;
 mod marks;
 mod page;
-mod words;
 
 use libc::STDIN_FILENO;
 use libc::STDOUT_FILENO;

@@ -51,7 +51,8 @@ fn of(satellite: Satellite, frame: &[u8]) -> Front
     }
 }
 
-fn type_sent(satellite: Satellite, frame: &[u8]) -> u32
+// The type in the type byte; 0 where the frame ends ahead of it.
+pub fn type_sent(satellite: Satellite, frame: &[u8]) -> u32
     ensures { λ r. ⌜ r ≡ typeOf satellite (now (frame .entry)) ⌝ }
 {
     let at = satellite.type_byte_at();

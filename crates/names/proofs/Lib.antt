@@ -2,6 +2,7 @@ pub mod Along
 pub mod Arrays
 pub mod Counted
 pub mod Determined
+pub mod Distinct
 pub mod Sensors
 pub mod Words
 pub mod Worked

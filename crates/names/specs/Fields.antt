@@ -1,4 +1,5 @@
--- The names of the fields (01, "The field tables": "Field names come from the documents"; FORMAT 6), by document and type.
+-- The names of the satellites, and of the fields (01, "The field tables": "Field names come from the documents"; FORMAT 6), by document
+-- and type.
 use Prim.Native.Nat.{ℕ}
 use mathlib.Core.Bool.{cond}
 use mathlib.Core.List.{List, [], _∷_, _++_}
@@ -11,6 +12,16 @@ use Rattle.names.specs.declared.Name.{Name}
 use Rattle.names.specs.declared.types.Document.{Document}
 use Rattle.names.specs.declared.types.Document.the-variants.{D000, D001, D002, D004}
 use Rattle.names.specs.Names.{text, written, arrayOf, gridOf, prefixed}
+
+-- the satellites' own names (01, "Scope and rules"; FORMAT 2)
+abbrev pub satelliteName : Satellite → List ℕ
+satelliteName HadesD = text "HADES-D"
+satelliteName HadesIcm = text "HADES-ICM"
+satelliteName MariaG = text "MARIA-G"
+satelliteName Unne1 = text "UNNE-1"
+satelliteName HadesR = text "HADES-R"
+satelliteName Unne1b = text "UNNE-1B"
+satelliteName HadesSa = text "HADES-SA"
 
 -- the document that describes a satellite
 abbrev pub documentOf : Satellite → Document

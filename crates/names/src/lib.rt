@@ -6,7 +6,7 @@ ghost use mathlib.Core.Path.{_≡_};
 ghost use mathlib.Core.List.{List, [], _∷_, _++_};
 ghost use Prim.Native.Nat.{ℕ};
 ghost use Rattle.names.specs.Names.{written, index};
-ghost use Rattle.names.specs.Fields.{nameOf};
+ghost use Rattle.names.specs.Fields.{nameOf, satelliteName};
 use satellites::Satellite;
 use types::Document;
 
@@ -31,7 +31,28 @@ pub fn of(satellite: Satellite, ty: u32, field: usize) -> Name
     }
 }
 
+// The name of a satellite (01, "Scope and rules"; FORMAT 2).
+pub fn of_satellite(satellite: Satellite) -> Name
+    ensures { λ r. ⌜ r ≡ written (satelliteName satellite) ⌝ }
+{
+    match satellite {
+        Satellite::HadesD => Name::of(b"HADES-D"),
+        Satellite::HadesIcm => Name::of(b"HADES-ICM"),
+        Satellite::MariaG => Name::of(b"MARIA-G"),
+        Satellite::Unne1 => Name::of(b"UNNE-1"),
+        Satellite::HadesR => Name::of(b"HADES-R"),
+        Satellite::Unne1b => Name::of(b"UNNE-1B"),
+        Satellite::HadesSa => Name::of(b"HADES-SA"),
+    }
+}
+
 impl Name {
+    fn of(letters: &[u8]) -> Name
+        ensures { λ r. ⌜ r ≡ written (now (letters .entry)) ⌝ }
+    {
+        Name::none().and_all(letters)
+    }
+
     fn none() -> Name
         ensures { λ r. ⌜ r ≡ written [] ⌝ }
     {

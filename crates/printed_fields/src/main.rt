@@ -1,7 +1,6 @@
 // Every field of every satellite and type (01, "The field tables"; FORMAT 6): a line for each, with satellite number, type,
 // field number, first bit in the body, width in bits, and name.
 use layouts::Layout;
-use libc::STDOUT_FILENO;
 use names::Name;
 use satellites::Known;
 use satellites::Satellite;
@@ -33,18 +32,11 @@ fn print_fields(satellite: Satellite, ty: u32, layout: Layout) {
 }
 
 fn print_number(n: u64) {
-    io::print_decimal(STDOUT_FILENO, n);
-    io::write_all(STDOUT_FILENO, b" ");
+    printing::number(n);
+    printing::text(b" ");
 }
 
 fn print_name(name: Name) {
-    let text = name.text;
-    print_front(&text, name.letters);
-    io::write_all(STDOUT_FILENO, b"\n");
-}
-
-fn print_front(text: &[u8], letters: usize) {
-    if letters <= text.len() {
-        io::write_all(STDOUT_FILENO, &text[0..letters]);
-    }
+    printing::name(name);
+    printing::text(b"\n");
 }

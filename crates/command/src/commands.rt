@@ -1,0 +1,64 @@
+// The commands by their first words.
+use crate::changes;
+use crate::fields;
+use crate::following;
+use crate::frame;
+use crate::frame::Asked;
+use crate::given;
+use crate::helps;
+use crate::lines::Next;
+use crate::warmth;
+
+// What the next line is, is the answer: frames for `csv` and `json`.
+pub(crate) fn answer(line: &[u8]) -> Next {
+    let span = words::nth(line, 0);
+    let from = span.from;
+    let to = span.to;
+    dispatch(line, &line[from..to])
+}
+
+fn dispatch(line: &[u8], word: &[u8]) -> Next {
+    if check::same(word, b"csv") {
+        return following::csv(line);
+    }
+    if check::same(word, b"json") {
+        return following::json(line);
+    }
+    act(line, word);
+    Next::Command
+}
+
+fn act(line: &[u8], word: &[u8]) {
+    if check::same(word, b"read") {
+        return frame::of(line, Asked::Read);
+    }
+    if check::same(word, b"fields") {
+        return fields::list(line);
+    }
+    if check::same(word, b"layouts") {
+        return fields::layouts(line);
+    }
+    if check::same(word, b"write") {
+        return changes::write(line);
+    }
+    if check::same(word, b"edit") {
+        return frame::of(line, Asked::Edit);
+    }
+    act_else(line, word);
+}
+
+fn act_else(line: &[u8], word: &[u8]) {
+    if check::same(word, b"explain") {
+        return frame::of(line, Asked::Explain);
+    }
+    if check::same(word, b"temperature") {
+        return warmth::temperature(line);
+    }
+    if check::same(word, b"summary") {
+        return warmth::summary(line);
+    }
+    if check::same(word, b"help") {
+        return helps::help(line);
+    }
+    given::wrong_word(line, 0, b"unknown command", b" (help lists the commands)");
+}

@@ -1,0 +1,9 @@
+pub mod Ahead
+pub mod Bytes
+pub mod Counted
+pub mod Determined
+pub mod Laws
+pub mod Numbers
+pub mod Ranges
+pub mod Spans
+pub mod Worked
