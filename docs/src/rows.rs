@@ -93,6 +93,14 @@ pub fn widths(row: &Row) -> Vec<usize> {
     widths
 }
 
+/// The ten temperatures are the last ten fields of type 2.
+pub fn first_temperature(satellite: usize) -> usize {
+    match rows(satellite).into_iter().find(|row| row.kind == 2) {
+        Some(row) => widths(row).len() - 10,
+        None => panic!("satellite {} has no type 2", satellite),
+    }
+}
+
 /// The length of a frame: what comes before the body, the fields, and the
 /// checksum.
 pub fn frame_bytes(satellite: &Satellite, widths: &[usize]) -> usize {

@@ -2,7 +2,7 @@
 //! the two programs uses a part of it.
 #![allow(dead_code)]
 
-use crate::rows::{rows, widths};
+use crate::rows::first_temperature;
 
 pub const SYNC_BYTES: usize = 2;
 
@@ -52,13 +52,5 @@ pub fn own(number: usize) -> String {
             own.before_type(),
             first_temperature(number)
         ),
-    }
-}
-
-/// The ten temperatures are the last ten fields of type 2.
-fn first_temperature(number: usize) -> usize {
-    match rows(number).into_iter().find(|row| row.kind == 2) {
-        Some(row) => widths(row).len() - 10,
-        None => panic!("satellite {} has no type 2", number),
     }
 }

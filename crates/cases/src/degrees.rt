@@ -2,7 +2,6 @@
 use crate::call;
 use crate::calls;
 use crate::page;
-use frames::refusal;
 use satellites::Known;
 use satellites::Satellite;
 use temperatures::Answer;
@@ -34,15 +33,15 @@ fn temperature(call: &[u8], page: &mut [u8]) -> usize {
     }
     match temperatures::reading_of(code as u32) {
         Answer::Is(reading) => put_reading(page, reading),
-        Answer::Refused => put_told(page, refusal::VALUE, b" 0", 0.0),
+        Answer::Refused => put_told(page, refusals::VALUE, b" 0", 0.0),
     }
 }
 
 // With no degrees, 0.0 stands for them.
 fn put_reading(page: &mut [u8], reading: Reading) -> usize {
     match reading {
-        Reading::Degrees(degrees) => put_told(page, refusal::ACCEPTED, b" 1", degrees),
-        Reading::SensorError => put_told(page, refusal::ACCEPTED, b" 2", 0.0),
+        Reading::Degrees(degrees) => put_told(page, refusals::ACCEPTED, b" 1", degrees),
+        Reading::SensorError => put_told(page, refusals::ACCEPTED, b" 2", 0.0),
     }
 }
 
@@ -81,17 +80,20 @@ fn day(call: &[u8], page: &mut [u8], room: &mut [u32], bytes: &mut [u8]) -> usiz
     day_of(page, number as u32, &bytes[0..n], room)
 }
 
-// Which field is the first temperature is asked of the satellite.
+// Which field is the first temperature is asked of the layout.
 fn day_of(page: &mut [u8], number: u32, frame: &[u8], room: &mut [u32]) -> usize {
     match Satellite::from_number(number) {
-        Known::Is(satellite) => day_from(page, number, satellite.first_temperature(), frame, room),
-        Known::Unknown => put_refused(page, refusal::SATELLITE),
+        Known::Is(satellite) => {
+            let first = layouts::of(satellite, TEMPERATURES).first_behind_clock();
+            day_from(page, number, first, frame, room)
+        }
+        Known::Unknown => put_refused(page, refusals::SATELLITE),
     }
 }
 
 fn day_from(page: &mut [u8], number: u32, first: usize, frame: &[u8], room: &mut [u32]) -> usize {
     let reading = reading::read(number, frame, room);
-    if reading.refusal != refusal::ACCEPTED {
+    if reading.refusal != refusals::ACCEPTED {
         return put_refused(page, reading.refusal);
     }
     if reading.ty != TEMPERATURES {

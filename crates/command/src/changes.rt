@@ -5,7 +5,6 @@ use crate::given;
 use crate::given::Typed;
 use crate::picture;
 use frames::Writing;
-use frames::refusal;
 use printing::bodies::MOST_BYTES;
 use satellites::Known;
 use satellites::Satellite;
@@ -41,7 +40,7 @@ fn write_words(line: &[u8], number: u32, ty: u32, values: &mut [u32]) {
 
 fn write_values(number: u32, ty: u32, values: &[u32], output: &mut [u8]) {
     let writing = writing::write(number, ty, values, output);
-    if writing.refusal != refusal::ACCEPTED {
+    if writing.refusal != refusals::ACCEPTED {
         return write_refused(number, ty, values, writing);
     }
     print_front(output, writing.answer);
@@ -68,17 +67,17 @@ fn no_satellite(number: u32) {
 // Tests 5, 10, 11: the output has room for every frame.
 fn values_refused(satellite: Satellite, ty: u32, values: &[u32], writing: Writing) {
     printing::text(b"refused ");
-    if writing.refusal == refusal::TYPE {
-        printing::refusals::of_type_asked(satellite, ty);
+    if writing.refusal == refusals::TYPE {
+        printing::reasons::of_type_asked(satellite, ty);
         return printing::text(b"\n");
     }
-    if writing.refusal == refusal::VALUES {
-        printing::refusals::of_count(satellite, ty, values.len());
+    if writing.refusal == refusals::VALUES {
+        printing::reasons::of_count(satellite, ty, values.len());
         return printing::text(b"\n");
     }
     let field = writing.answer;
     if field < values.len() {
-        printing::refusals::of_value(satellite, ty, field, values[field]);
+        printing::reasons::of_value(satellite, ty, field, values[field]);
     }
     printing::text(b"\n");
 }
@@ -127,7 +126,7 @@ fn edit_in(change: Change, frame: &[u8], values: &[u32], copy: &mut [u8]) {
 fn edit_copy(change: Change, frame: &[u8], values: &[u32], copy: &mut [u8]) {
     let satellite = change.satellite;
     let writing = editing::edit(satellite.number(), copy, change.field, change.value);
-    if writing.refusal != refusal::ACCEPTED {
+    if writing.refusal != refusals::ACCEPTED {
         return edit_refused(change, writing.refusal);
     }
     printing::bytes(copy, b"");
@@ -140,10 +139,10 @@ fn edit_copy(change: Change, frame: &[u8], values: &[u32], copy: &mut [u8]) {
 fn edit_refused(change: Change, refusal: u32) {
     let satellite = change.satellite;
     printing::text(b"refused ");
-    if refusal == refusal::FIELD {
-        printing::refusals::of_field(satellite, change.ty, change.field);
+    if refusal == refusals::FIELD {
+        printing::reasons::of_field(satellite, change.ty, change.field);
     } else {
-        printing::refusals::of_value(satellite, change.ty, change.field, change.value);
+        printing::reasons::of_value(satellite, change.ty, change.field, change.value);
     }
     printing::text(b"\n");
 }

@@ -3,7 +3,6 @@ use crate::frame;
 use crate::given;
 use crate::picture::plus;
 use frames::Reading;
-use frames::refusal;
 use printing::bodies;
 use printing::tests;
 use satellites::Known;
@@ -35,7 +34,7 @@ fn taken_apart(satellite: Satellite, frame: &[u8], reading: Reading) {
     test(7, b"length in bytes", satellite, frame, stop);
     test(8, b"room for values", satellite, frame, stop);
     test(9, b"checksum", satellite, frame, stop);
-    if stop == refusal::ACCEPTED {
+    if stop == refusals::ACCEPTED {
         return accepted(reading);
     }
     frame::refused(stop, satellite.number(), frame);
@@ -61,7 +60,7 @@ fn number_test(number: u32, stop: u32) {
 
 // A test behind the one at which reading stops is not made.
 fn test(n: u32, what: &[u8], satellite: Satellite, frame: &[u8], stop: u32) {
-    if stop != refusal::ACCEPTED {
+    if stop != refusals::ACCEPTED {
         if stop < n {
             return;
         }

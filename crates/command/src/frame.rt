@@ -4,7 +4,6 @@ use crate::explains;
 use crate::fields;
 use crate::given;
 use frames::Reading;
-use frames::refusal;
 use printing::bodies::MOST_BYTES;
 use printing::tests::ROOM;
 use satellites::Known;
@@ -75,7 +74,7 @@ fn read(line: &[u8], asked: Asked, number: u32, frame: &[u8], room: &mut [u32]) 
 }
 
 fn told(number: u32, frame: &[u8], reading: Reading, values: &[u32]) {
-    if reading.refusal != refusal::ACCEPTED {
+    if reading.refusal != refusals::ACCEPTED {
         return refused(reading.refusal, number, frame);
     }
     if let Known::Is(satellite) = Satellite::from_number(number) {
@@ -84,7 +83,7 @@ fn told(number: u32, frame: &[u8], reading: Reading, values: &[u32]) {
 }
 
 fn edited(line: &[u8], number: u32, frame: &[u8], reading: Reading, values: &[u32]) {
-    if reading.refusal != refusal::ACCEPTED {
+    if reading.refusal != refusals::ACCEPTED {
         return refused(reading.refusal, number, frame);
     }
     if let Known::Is(satellite) = Satellite::from_number(number) {
@@ -94,6 +93,6 @@ fn edited(line: &[u8], number: u32, frame: &[u8], reading: Reading, values: &[u3
 
 pub(crate) fn refused(refusal: u32, number: u32, frame: &[u8]) {
     printing::text(b"refused ");
-    printing::refusals::of_frame(refusal, number, frame);
+    printing::reasons::of_frame(refusal, number, frame);
     printing::text(b"\n");
 }

@@ -196,7 +196,7 @@ fn field_named(word: &[u8], satellite: Satellite, ty: u32) -> usize {
 // There is no satellite of that number, which is told.
 pub(crate) fn no_satellite(number: u32) -> bool {
     printing::text(b"refused ");
-    printing::refusals::of_number(number);
+    printing::reasons::of_number(number);
     printing::text(b"\n");
     false
 }

@@ -11,9 +11,9 @@ use borrow.Author.Tests.{ne-eqb, le-ltb, lt-ltb}
 use Rattle.scrambler.specs.Scrambler.{Register}
 use Rattle.layouts.specs.declared.Layout.{Layout}
 use Rattle.layouts.specs.Layouts.{widthAt}
-use Rattle.frames.specs.Tests.{Test, refusal}
+use Rattle.refusals.specs.Tests.{Test, refusal}
 use Rattle.frames.specs.Reading.{checksumRight}
-use Rattle.frames.proofs.Tests.{goes, stops, none-left}
+use Rattle.refusals.proofs.Tests.{goes, stops, none-left}
 use Rattle.editing.specs.Changed.{fieldTests, partTests, editedPart, partAfter}
 
 -- ---- a field's number and value

@@ -8,7 +8,7 @@ use Rattle.bits.specs.Bits.{replacedAnswer}
 use Rattle.scrambler.specs.Scrambler.{Register}
 use Rattle.layouts.specs.declared.Layout.{Layout}
 use Rattle.layouts.specs.Layouts.{widthAt, startAt}
-use Rattle.frames.specs.Tests.{Test, test, refusal}
+use Rattle.refusals.specs.Tests.{Test, test, refusal}
 use Rattle.frames.specs.Frames.{sealed, clearBody}
 use Rattle.frames.specs.Reading.{checksumRight}
 

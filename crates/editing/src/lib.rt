@@ -5,21 +5,19 @@
 mod editor;
 
 ghost use mathlib.Core.Path.{_≡_};
-ghost use Rattle.scrambler.specs.Scrambler.{restarted};
 ghost use Rattle.satellites.specs.Satellites.{known};
 ghost use Rattle.frames.specs.Editing.{editing, frameAfter};
 use frames::Writing;
-use frames::refusal;
 use satellites::Known;
 use satellites::Satellite;
 
 // Edits one field of a frame that this satellite sent: the frame with that field alone replaced takes the old one's place.
 pub fn edit(satellite: u32, frame: &mut [u8], field: usize, value: u32) -> Writing
-    ensures { λ r. ⌜ r ≡ editing restarted (known satellite) (now (frame .entry)) field value ⌝ }
-    ensures { λ _. ⌜ now (frame .exit) ≡ frameAfter restarted (known satellite) (now (frame .entry)) field value ⌝ }
+    ensures { λ r. ⌜ r ≡ editing (known satellite) (now (frame .entry)) field value ⌝ }
+    ensures { λ _. ⌜ now (frame .exit) ≡ frameAfter (known satellite) (now (frame .entry)) field value ⌝ }
 {
     match Satellite::from_number(satellite) {
         Known::Is(named) => editor::edit(named, frame, field, value),
-        Known::Unknown => Writing::refused(refusal::SATELLITE, 0),
+        Known::Unknown => Writing::refused(refusals::SATELLITE, 0),
     }
 }

@@ -8,26 +8,25 @@ use mathlib.Core.List.{List}
 use lib.ListN.{length, getD, take, drop, length-take, length-drop}
 use lib.Seq.{length-take-le, getD-take, getD-drop}
 use Rattle.bits.specs.Bits.{field}
-use Rattle.scrambler.specs.Scrambler.{Register}
+use Rattle.frames.specs.Registers.{Registers}
 use Rattle.satellites.specs.declared.Satellite.{Satellite}
 use Rattle.satellites.specs.declared.Known.the-variants.{Is}
-use Rattle.satellites.specs.Satellites.{firstTemperatureOf}
-use Rattle.layouts.specs.Layouts.{entryOf, widthAt}
+use Rattle.layouts.specs.Layouts.{entryOf, firstBehindClock, widthAt}
 use Rattle.layouts.proofs.Sensors.{fields-2, sensor-width, sensor-start}
 use Rattle.bodies.proofs.Laws.{fits-exactly}
-use Rattle.frames.specs.Reading.{reading, roomAfter}
+use Rattle.frames.specs.Reading.{readingBy, roomAfterBy}
 use Rattle.frames.proofs.Exact as exact
 use Rattle.frames.proofs.DemandOne.{unscrambled}
 use Rattle.frames.proofs.DemandTwo.{accepted-values}
 
-module _ (r : Register) (s : Satellite) (frame room : List ℕ) where
+module _ (r : Registers) (s : Satellite) (frame room : List ℕ) where
   -- the field of the first temperature
   abbrev first : ℕ
-  first = firstTemperatureOf s
+  first = firstBehindClock (entryOf s 2 .clock)
 
   -- the room as it is left
   abbrev left : List ℕ
-  left = roomAfter r (Is s) frame room
+  left = roomAfterBy r (Is s) frame room
 
   -- the ten codes
   abbrev pub codes : List ℕ
@@ -37,7 +36,7 @@ module _ (r : Register) (s : Satellite) (frame room : List ℕ) where
   code-at : (k : ℕ) → k < 10 → getD codes k 0 ≡ getD left (first + k) 0
   code-at k h = getD-take 10 (drop first left) k 0 h ∙ getD-drop first left k 0
 
-  module _ (n : ℕ) (answer : reading r (Is s) frame room ≡ record { refusal = 0; ty = 2; count = n }) where
+  module _ (n : ℕ) (answer : readingBy r (Is s) frame room ≡ record { refusal = 0; ty = 2; count = n }) where
     -- the room's places that were filled are those ahead of the first temperature, and ten
     count : n ≡ first + 10
     count = accepted-values r s frame room 2 n answer .0 ∙ fields-2 s
@@ -59,8 +58,8 @@ module _ (r : Register) (s : Satellite) (frame room : List ℕ) where
 
     -- code k is the 8 bits of the body that start 8 * k bits behind the first temperature's start, which is the body's, or 32
     -- bits behind it where a clock stands ahead
-    pub code-is : (k : ℕ) → k < 10 → getD codes k 0 ≡ field (32 * first + 8 * k) 8 (unscrambled r s frame)
+    pub code-is : (k : ℕ) → k < 10 → getD codes k 0 ≡ field (32 * first + 8 * k) 8 (unscrambled (r s) s frame)
     code-is k h =
         code-at k h
         ∙ accepted-values r s frame room 2 n answer .1 .0 (first + k) (omega (arith, h, count))
-        ∙ ap₂ (λ (at width : ℕ). field at width (unscrambled r s frame)) (sensor-start s k h) (sensor-width s k h)
+        ∙ ap₂ (λ (at width : ℕ). field at width (unscrambled (r s) s frame)) (sensor-start s k h) (sensor-width s k h)

@@ -1,8 +1,9 @@
 -- Demand 1, on every call that reads, writes or edits a frame, as theorems. They speak of the definitions that the contracts
 -- cite: `reading::read` answers `reading` and leaves `roomAfter`, `writing::write` answers `writing` and leaves `outputAfter`,
 -- `editing::edit` answers `editing` and leaves `frameAfter`, of what the satellite's number names (`known`) and of what the call was
--- given; proofs/Contracts.antt of each of these crates shows that. r is the register that the scrambler starts from; the contracts
--- give `restarted`, and all of this holds for every r.
+-- given; proofs/Contracts.antt of each of these crates shows that. The scrambler starts from the satellite's register: `reading` is
+-- `readingBy registerOf`, `roomAfter` is `roomAfterBy registerOf`, and so on (Cited.antt). The theorems speak of `readingBy r`,
+-- `roomAfterBy r` and so on for every r, which gives each satellite s a register `r s`.
 --
 -- "Every call .. keeps nothing from the call before": what is answered and left are functions of the call's arguments, and
 -- `Determined` in each of these crates shows that the contracts allow nothing else. "Answers for all input": the contracts ask for
@@ -11,14 +12,14 @@
 -- The words: `trainingOf`, `sizeByteOf`, `addressOf` are a satellite's constants, and its type byte stands at `typeByteAt`.
 -- `carries s t` says that 01's table has type t for satellite s; its line is `entryOf s t`, with the fields' `widths` and the
 -- `size`, "from type byte to checksum". Field i is `widthAt widths i` bits wide. `partAnswer Unscramble r` is the inverse of
--- scrambling from r on. `FirstFails`, `AllHold` and `Mean`, for lists of tests, are in specs/Tests.antt.
+-- scrambling from r on. `FirstFails`, `AllHold` and `Mean`, for lists of tests, are in specs/Tests.antt of `refusals`.
 -- Assumes nothing.
 use Prim.Native.Nat.{ℕ, _+_, _-_, _/_, _%_, _^_, _≤_, _<_}
 use native.Mathlib.Omega.{arith}
-use mathlib.Core.Path.{_≡_, refl, sym, _∙_}
+use mathlib.Core.Path.{_≡_, refl, sym, _∙_, subst}
 use mathlib.Core.Logic.{_≢_}
 use mathlib.Core.Bool.{Bool, true}
-use mathlib.Core.List.{List, [], _∷_, _++_}
+use mathlib.Core.List.{List, [], _∷_, _++_, append-assoc}
 use Prim.{⊥}
 use lib.Dec.{eqb}
 use lib.ListN.{length, getD, take, drop, replicate}
@@ -32,14 +33,16 @@ use Rattle.satellites.specs.declared.Known.the-variants.{Is, Unknown}
 use Rattle.satellites.specs.Satellites.{known, numberOf, addressOf, trainingOf, sizeByteOf, typeByteAt}
 use Rattle.satellites.proofs.Laws.{known-below, unknown, number-known}
 use Rattle.layouts.specs.Layouts.{carries, entryOf, widthAt}
-use Rattle.frames.specs.Tests.{Test, refusal, FirstFails, AllHold, Iff, Said, says, Mean}
+use Rattle.refusals.specs.Tests.{Test, refusal, FirstFails, AllHold, Iff, Said, says, Mean}
+use Rattle.frames.specs.Registers.{Registers}
 use Rattle.frames.specs.Frames.{training, sync, clearBody, typeOf, entryIn}
-use Rattle.frames.specs.Reading.{checksumRight, frontTests, wholeTests, readingTests, reading, roomAfter}
-use Rattle.frames.specs.Editing.{editingTests, editing, frameAfter}
-use Rattle.frames.specs.Writing.{writingTests, writing, outputAfter}
-use Rattle.frames.proofs.Tests.{Numbered, first-fails, fails-first, all-hold, hold-all}
+use Rattle.frames.specs.Reading.{checksumRight, checksumTest, frontTests, wholeTests, frameTests, readingTests, readingBy, roomAfterBy}
+use Rattle.frames.specs.Editing.{editingTests, editingBy, frameAfterBy}
+use Rattle.frames.specs.Writing.{writingTests, writing, outputAfterBy}
+use Rattle.refusals.proofs.Says.{below, at-most, equal, same-bytes, both, only-where, itself, always, never}
+use Rattle.refusals.proofs.Tests.{Numbered, first-fails, fails-first, all-hold, hold-all}
 use Rattle.frames.proofs.Answers as answers
-use Rattle.frames.proofs.Says.{below, at-most, equal, same-bytes, both, only-where, itself, always, never, all-fit}
+use Rattle.frames.proofs.Says.{all-fit}
 
 -- ---- the parts of a frame
 
@@ -102,17 +105,28 @@ checked : (r : Register) (s : Satellite) (frame : List ℕ)
 unfolding clearBody
 checked r s frame = equal (lastTwo s frame) (checksum (getD (part s frame) 0 0 ∷ unscrambled r s frame))
 
+-- tests 2 to 7 and 9, of the frame whatever room its values are given
+frame-mean : (r : Register) (s : Satellite) (frame : List ℕ) (ts : List Test) (said : List Said) → Mean ts said
+    → Mean (frameTests r s frame ++ ts)
+    (wholeSaid s frame ++ (says 9 (lastTwo s frame ≡ checksum (getD (part s frame) 0 0 ∷ unscrambled r s frame)) ∷ said))
+unfolding frameTests
+frame-mean r s frame ts said rest =
+    let nine = checksumTest r s frame ∷ [] in
+    let sum = says 9 (lastTwo s frame ≡ checksum (getD (part s frame) 0 0 ∷ unscrambled r s frame)) in
+    subst (λ tests. Mean tests (wholeSaid s frame ++ (sum ∷ said))) (sym (append-assoc (wholeTests s frame) nine ts))
+    (whole-mean s frame (nine ++ ts) (sum ∷ said) (its 9 (checked r s frame) rest))
+
 -- reading tests 1 to 9 in that order, and these are the tests
-pub reading-tests : (r : Register) (s : Satellite) (frame room : List ℕ)
+pub reading-tests : (r : Registers) (s : Satellite) (frame room : List ℕ)
     → Mean (readingTests r (Is s) frame room)
     (says 1 (Unit {0})
     ∷ (wholeSaid s frame
     ++ (says 8 (length (entryOf s (getD (part s frame) 0 0 / 16) .widths) ≤ length room)
-    ∷ says 9 (lastTwo s frame ≡ checksum (getD (part s frame) 0 0 ∷ unscrambled r s frame))
+    ∷ says 9 (lastTwo s frame ≡ checksum (getD (part s frame) 0 0 ∷ unscrambled (r s) s frame))
     ∷ [])))
 unfolding readingTests
 reading-tests r s frame room =
-    let nine = its 9 (checked r s frame) (tt {0}) in
+    let nine = its 9 (checked (r s) s frame) (tt {0}) in
     let eight = its 8 (at-most (length (entryIn s frame .widths)) (length room)) nine in
     its 1 always (whole-mean s frame _ _ eight)
 
@@ -135,11 +149,11 @@ writing-tests s t values output =
     its 1 always five
 
 -- editing tests 1 to 7, 9, 13, 11
-pub editing-tests : (r : Register) (s : Satellite) (frame : List ℕ) (k v : ℕ)
+pub editing-tests : (r : Registers) (s : Satellite) (frame : List ℕ) (k v : ℕ)
     → Mean (editingTests r (Is s) frame k v)
     (says 1 (Unit {0})
     ∷ (wholeSaid s frame
-    ++ (says 9 (lastTwo s frame ≡ checksum (getD (part s frame) 0 0 ∷ unscrambled r s frame))
+    ++ (says 9 (lastTwo s frame ≡ checksum (getD (part s frame) 0 0 ∷ unscrambled (r s) s frame))
     ∷ says 13 (k < length (entryOf s (getD (part s frame) 0 0 / 16) .widths))
     ∷ says 11 (v < 2 ^ widthAt (entryOf s (getD (part s frame) 0 0 / 16) .widths) k)
     ∷ [])))
@@ -148,10 +162,10 @@ editing-tests r s frame k v =
     let ws = entryIn s frame .widths in
     let eleven = its 11 (below v (2 ^ widthAt ws k)) (tt {0}) in
     let thirteen = its 13 (below k (length ws)) eleven in
-    its 1 always (whole-mean s frame _ _ (its 9 (checked r s frame) thirteen))
+    its 1 always (frame-mean (r s) s frame _ _ thirteen)
 
 -- of a satellite that is not named, all of them test that alone
-pub unnamed-tests : (r : Register) (m n : ℕ) (xs ys : List ℕ)
+pub unnamed-tests : (r : Registers) (m n : ℕ) (xs ys : List ℕ)
     → Mean (readingTests r Unknown xs ys) (says 1 ⊥ ∷ [])
     × (Mean (writingTests Unknown m xs ys) (says 1 ⊥ ∷ []) × Mean (editingTests r Unknown xs m n) (says 1 ⊥ ∷ []))
 unfolding readingTests writingTests editingTests
@@ -165,9 +179,9 @@ none-told : (tests : List Test) → Numbered tests → {a : ℕ} → a ≡ refus
 none-told tests numbered number = (λ e. all-hold tests numbered (sym number ∙ e), λ h. number ∙ hold-all tests h)
 
 -- a number other than 0 is answered exactly when the test of that number fails and those ahead of it hold
-pub reading-refuses : (r : Register) (k : Known) (frame room : List ℕ) (n : ℕ) → n ≢ 0
-    → (reading r k frame room .refusal ≡ n → FirstFails n (readingTests r k frame room))
-    × (FirstFails n (readingTests r k frame room) → reading r k frame room .refusal ≡ n)
+pub reading-refuses : (r : Registers) (k : Known) (frame room : List ℕ) (n : ℕ) → n ≢ 0
+    → (readingBy r k frame room .refusal ≡ n → FirstFails n (readingTests r k frame room))
+    × (FirstFails n (readingTests r k frame room) → readingBy r k frame room .refusal ≡ n)
 reading-refuses r k frame room n some = told (readingTests r k frame room) (answers.reading-number r k frame room) n some
 
 pub writing-refuses : (k : Known) (t : ℕ) (values output : List ℕ) (n : ℕ) → n ≢ 0
@@ -175,15 +189,15 @@ pub writing-refuses : (k : Known) (t : ℕ) (values output : List ℕ) (n : ℕ)
     × (FirstFails n (writingTests k t values output) → writing k t values output .refusal ≡ n)
 writing-refuses k t values output n some = told (writingTests k t values output) (answers.writing-number k t values output) n some
 
-pub editing-refuses : (r : Register) (s : Known) (frame : List ℕ) (k v n : ℕ) → n ≢ 0
-    → (editing r s frame k v .refusal ≡ n → FirstFails n (editingTests r s frame k v))
-    × (FirstFails n (editingTests r s frame k v) → editing r s frame k v .refusal ≡ n)
+pub editing-refuses : (r : Registers) (s : Known) (frame : List ℕ) (k v n : ℕ) → n ≢ 0
+    → (editingBy r s frame k v .refusal ≡ n → FirstFails n (editingTests r s frame k v))
+    × (FirstFails n (editingTests r s frame k v) → editingBy r s frame k v .refusal ≡ n)
 editing-refuses r s frame k v n some = told (editingTests r s frame k v) (answers.editing-number r s frame k v) n some
 
 -- and 0 exactly when all of them hold
-pub reading-accepts : (r : Register) (k : Known) (frame room : List ℕ)
-    → (reading r k frame room .refusal ≡ 0 → AllHold (readingTests r k frame room))
-    × (AllHold (readingTests r k frame room) → reading r k frame room .refusal ≡ 0)
+pub reading-accepts : (r : Registers) (k : Known) (frame room : List ℕ)
+    → (readingBy r k frame room .refusal ≡ 0 → AllHold (readingTests r k frame room))
+    × (AllHold (readingTests r k frame room) → readingBy r k frame room .refusal ≡ 0)
 reading-accepts r k frame room =
     none-told (readingTests r k frame room) (answers.reading-numbered r k frame room) (answers.reading-number r k frame room)
 
@@ -193,22 +207,22 @@ pub writing-accepts : (k : Known) (t : ℕ) (values output : List ℕ)
 writing-accepts k t values output =
     none-told (writingTests k t values output) (answers.writing-numbered k t values output) (answers.writing-number k t values output)
 
-pub editing-accepts : (r : Register) (s : Known) (frame : List ℕ) (k v : ℕ)
-    → (editing r s frame k v .refusal ≡ 0 → AllHold (editingTests r s frame k v))
-    × (AllHold (editingTests r s frame k v) → editing r s frame k v .refusal ≡ 0)
+pub editing-accepts : (r : Registers) (s : Known) (frame : List ℕ) (k v : ℕ)
+    → (editingBy r s frame k v .refusal ≡ 0 → AllHold (editingTests r s frame k v))
+    × (AllHold (editingTests r s frame k v) → editingBy r s frame k v .refusal ≡ 0)
 editing-accepts r s frame k v =
     none-told (editingTests r s frame k v) (answers.editing-numbered r s frame k v) (answers.editing-number r s frame k v)
 
 -- ---- "and a refused call leaves every buffer handed to it untouched"
 
 -- "A refusal answers type 0, count 0"
-pub reading-refused : (r : Register) (k : Known) (frame room : List ℕ) (n : ℕ) → reading r k frame room .refusal ≡ n → n ≢ 0
-    → (reading r k frame room ≡ record { refusal = n; ty = 0; count = 0 }) × (roomAfter r k frame room ≡ room)
+pub reading-refused : (r : Registers) (k : Known) (frame room : List ℕ) (n : ℕ) → readingBy r k frame room .refusal ≡ n → n ≢ 0
+    → (readingBy r k frame room ≡ record { refusal = n; ty = 0; count = 0 }) × (roomAfterBy r k frame room ≡ room)
 reading-refused = answers.reading-refused
 
 -- "A refusal answers 0, except 11"
-pub writing-refused : (r : Register) (k : Known) (t : ℕ) (values output : List ℕ) (n : ℕ) → writing k t values output .refusal ≡ n → n ≢ 0
-    → (n ≢ 11 → writing k t values output ≡ record { refusal = n; answer = 0 }) × (outputAfter r k t values output ≡ output)
+pub writing-refused : (r : Registers) (k : Known) (t : ℕ) (values output : List ℕ) (n : ℕ) → writing k t values output .refusal ≡ n → n ≢ 0
+    → (n ≢ 11 → writing k t values output ≡ record { refusal = n; answer = 0 }) × (outputAfterBy r k t values output ≡ output)
 writing-refused = answers.writing-refused
 
 -- "11, which answers the lowest field number that does not fit"
@@ -220,7 +234,7 @@ pub writing-lowest : (s : Satellite) (t i : ℕ) (values output : List ℕ)
 writing-lowest = answers.writing-lowest
 
 -- "a refusal answers 0, and 11 the field's number"
-pub editing-refused : (r : Register) (s : Known) (frame : List ℕ) (k v n : ℕ) → editing r s frame k v .refusal ≡ n → n ≢ 0
-    → (n ≢ 11 → editing r s frame k v ≡ record { refusal = n; answer = 0 })
-    × ((n ≡ 11 → editing r s frame k v ≡ record { refusal = n; answer = k }) × (frameAfter r s frame k v ≡ frame))
+pub editing-refused : (r : Registers) (s : Known) (frame : List ℕ) (k v n : ℕ) → editingBy r s frame k v .refusal ≡ n → n ≢ 0
+    → (n ≢ 11 → editingBy r s frame k v ≡ record { refusal = n; answer = 0 })
+    × ((n ≡ 11 → editingBy r s frame k v ≡ record { refusal = n; answer = k }) × (frameAfterBy r s frame k v ≡ frame))
 editing-refused = answers.editing-refused

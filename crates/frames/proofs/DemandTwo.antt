@@ -3,7 +3,8 @@
 -- Assumes nothing.
 use Prim.Native.Nat.{ℕ, _+_, _-_, _*_, _/_, _%_, _≤_, _<_}
 use native.Mathlib.Omega.{arith}
-use mathlib.Core.Path.{_≡_, sym, _∙_, ap, subst}
+use mathlib.Core.Path.{_≡_, refl, sym, _∙_, ap, subst}
+use borrow.Author.Tests.{eqb-true}
 use mathlib.Core.Bool.{true}
 use mathlib.Core.List.{List, [], _∷_, _++_}
 use lib.ListN.{length, getD, take, drop, replicate}
@@ -15,14 +16,20 @@ use Rattle.satellites.specs.declared.Known.the-variants.{Is}
 use Rattle.satellites.specs.Satellites.{addressOf, trainingOf, sizeByteOf, typeByteAt}
 use Rattle.satellites.proofs.Laws.{address-most}
 use Rattle.layouts.specs.Layouts.{carries, entryOf, widthAt, startAt}
-use Rattle.frames.specs.Frames.{frameOf, frameLength, clearBody, clear}
-use Rattle.frames.specs.Reading.{frontTests, wholeTests, readingTests, reading, roomAfter}
-use Rattle.frames.specs.Writing.{writing, outputAfter}
+use Rattle.refusals.specs.Tests.{Iff}
+use Rattle.frames.specs.Registers.{Registers}
+use Rattle.frames.specs.declared.Reading.{Reading}
+use Rattle.frames.specs.Frames.{frameOf, frameLength, clearBody, clear, typeOf}
+use Rattle.frames.specs.Reading.{acceptedBy, readingBy, roomAfterBy}
+use Rattle.frames.specs.Writing.{writing, outputAfterBy}
 use Rattle.frames.proofs.Fronts as fronts
 use Rattle.frames.proofs.Wholes.{its-length, its-training, its-sync, its-type-byte, its-size-byte, its-checksum}
+use Rattle.frames.proofs.Accepted.{whole-right, was-whole, was-right, parts-right}
+use Rattle.frames.proofs.Readings as readings
+use Rattle.frames.proofs.Readings.{readAs}
 use Rattle.frames.proofs.Answers as answers
 use Rattle.frames.proofs.Exact as exact
-use Rattle.frames.proofs.DemandOne.{part, lastTwo, unscrambled, reading-tests}
+use Rattle.frames.proofs.DemandOne.{part, lastTwo, unscrambled}
 
 -- ---- 2. "a frame is accepted exactly when preamble, address, type, size byte where there is one, length and checksum are
 -- those of the published tables": those of type t are
@@ -61,82 +68,120 @@ frame-published r s t values carried =
       checksum-right = its-checksum r s t carried values ∙ summed r s (frameOf r s t values);
     }
 
-module _ (r : Register) (s : Satellite) (frame room : List ℕ) where
-  -- whatever is right is accepted, "given room for its values"
-  pub published-accepted : (t : ℕ) → Published r s t frame → length (entryOf s t .widths) ≤ length room
-      → reading r (Is s) frame room ≡ record { refusal = 0; ty = t; count = length (entryOf s t .widths) }
-  published-accepted t p =
-      exact.right-accepted r s frame room t (p .carried) (p .training-right) (p .sync-right) (p .address-right) (p .type-right)
-      (p .size-right) (p .length-right) (p .checksum-right ∙ sym (summed r s frame))
+-- `acceptedBy` is that test, on the frame alone: it is true of a frame that is right, of the type in its type byte, and of no other
+pub accepted-exactly : (r : Register) (s : Satellite) (frame : List ℕ)
+    → Iff (acceptedBy r s frame) (Published r s (getD frame (typeByteAt s) 0 / 16) frame)
+accepted-exactly r s frame = (right, is-accepted)
+  where
+    first : getD (part s frame) 0 0 ≡ getD frame (typeByteAt s) 0
+    first = fronts.first-at (typeByteAt s) frame
 
-  module _ (t n : ℕ) (answer : reading r (Is s) frame room ≡ record { refusal = 0; ty = t; count = n }) where
-    -- and whatever is accepted is right
-    pub accepted-published : Published r s t frame
-    unfolding readingTests wholeTests frontTests clearBody
-    accepted-published =
-        let typed = answers.its-type r s frame room t n answer in
-        let first = fronts.first-at (typeByteAt s) frame in
-        let holds = answers.all-held r s frame room t n answer in
-        let tests = reading-tests r s frame room in
-        let three = tests .1 .1 .0 .1 .0 (holds 2 (omega arith)) in
-        let size = tests .1 .1 .1 .1 .1 .0 .1 .0 (holds 5 (omega arith)) in
+    typed : typeOf s frame ≡ getD frame (typeByteAt s) 0 / 16
+    typed = ap (λ (x : ℕ). x / 16) first
+
+    right : acceptedBy r s frame ≡ true → Published r s (getD frame (typeByteAt s) 0 / 16) frame
+    right accepted =
+        let whole = was-whole r s frame accepted in
+        let sum = eqb-true (lastTwo s frame) (checksum (clear r (part s frame))) (was-right r s frame accepted) in
         record {
-          training-right = three .0;
-          sync-right = three .1;
-          address-right = ap (λ (x : ℕ). x % 16) (sym first) ∙ tests .1 .1 .1 .0 .1 .0 (holds 3 (omega arith));
-          type-right = ap (λ (x : ℕ). x / 16) (sym first) ∙ typed;
-          carried = ap (carries s) (sym typed) ∙ holds 4 (omega arith);
-          size-right = λ has. size has ∙ ap (λ (u : ℕ). entryOf s u .size) typed;
-          length-right = tests .1 .1 .1 .1 .1 .1 .0 .1 .0 (holds 6 (omega arith)) ∙ ap (frameLength s) typed;
-          checksum-right = tests .1 .1 .1 .1 .1 .1 .1 .1 .0 .1 .0 (holds 8 (omega arith)) ∙ summed r s frame;
+          training-right = fronts.is-trained s frame whole;
+          sync-right = fronts.is-synced s frame whole;
+          address-right = ap (λ (x : ℕ). x % 16) (sym first) ∙ fronts.is-addressed s frame whole;
+          type-right = refl;
+          carried = ap (carries s) (sym typed) ∙ fronts.is-carried s frame whole;
+          size-right = λ has. fronts.is-sized s frame whole has ∙ ap (λ (u : ℕ). entryOf s u .size) typed;
+          length-right = fronts.is-whole s frame whole ∙ ap (frameLength s) typed;
+          checksum-right = sum ∙ summed r s frame;
         }
+
+    is-accepted : Published r s (getD frame (typeByteAt s) 0 / 16) frame → acceptedBy r s frame ≡ true
+    is-accepted p =
+        parts-right r s frame (getD frame (typeByteAt s) 0 / 16) (p .carried) (p .training-right) (p .sync-right)
+        (p .address-right) (p .type-right) (p .size-right) (p .length-right) (p .checksum-right ∙ sym (summed r s frame))
+
+module _ (r : Registers) (s : Satellite) (frame room : List ℕ) where
+  -- "Given room for its values", reading accepts such a frame, and answers its type and how many fields that has
+  pub given-room : acceptedBy (r s) s frame ≡ true
+      → let t = getD frame (typeByteAt s) 0 / 16 in
+      length (entryOf s t .widths) ≤ length room
+      → readingBy r (Is s) frame room ≡ record { refusal = 0; ty = t; count = length (entryOf s t .widths) }
+  given-room accepted roomy =
+      let typed = ap (λ (x : ℕ). x / 16) (fronts.first-at (typeByteAt s) frame) in
+      let count = ap (λ (u : ℕ). length (entryOf s u .widths)) typed in
+      readings.given-room r s frame room accepted (omega (arith, count, roomy))
+      ∙ ap (λ (u : ℕ). readAs u (length (entryOf s u .widths))) typed
+
+  -- and reading accepts no other
+  pub read-accepted : readingBy r (Is s) frame room .refusal ≡ 0 → acceptedBy (r s) s frame ≡ true
+  read-accepted e =
+      let a = readingBy r (Is s) frame room in
+      let answer : a ≡ readAs (a .ty) (a .count) = λ i. record { refusal = e i; ty = a .ty; count = a .count } in
+      whole-right (r s) s frame (answers.was-whole r s frame room (a .ty) (a .count) answer)
+      (answers.was-right r s frame room (a .ty) (a .count) answer)
+
+  -- so whatever is right is accepted, given room
+  pub published-accepted : (t : ℕ) → Published (r s) s t frame → length (entryOf s t .widths) ≤ length room
+      → readingBy r (Is s) frame room ≡ record { refusal = 0; ty = t; count = length (entryOf s t .widths) }
+  published-accepted t p roomy =
+      let its = p .type-right in
+      let count = ap (λ (u : ℕ). length (entryOf s u .widths)) its in
+      given-room (accepted-exactly (r s) s frame .1 (subst (λ u. Published (r s) s u frame) (sym its) p)) (omega (arith, count, roomy))
+      ∙ ap (λ (u : ℕ). readAs u (length (entryOf s u .widths))) its
+
+  module _ (t n : ℕ) (answer : readingBy r (Is s) frame room ≡ record { refusal = 0; ty = t; count = n }) where
+    -- and whatever is accepted is right
+    pub accepted-published : Published (r s) s t frame
+    accepted-published =
+        let typed = ap (λ (x : ℕ). x / 16) (sym (fronts.first-at (typeByteAt s) frame)) ∙ answers.its-type r s frame room t n answer in
+        subst (λ u. Published (r s) s u frame) typed
+        (accepted-exactly (r s) s frame .0 (read-accepted (ap (λ (a : Reading). a .refusal) answer)))
 
     -- "Its values are the table's fields", as many as the table has; "later places stay"
     pub accepted-values : (n ≡ length (entryOf s t .widths))
         × (((i : ℕ) → i < n
-        → getD (roomAfter r (Is s) frame room) i 0
-        ≡ field (startAt (entryOf s t .widths) i) (widthAt (entryOf s t .widths) i) (unscrambled r s frame))
-        × ((length (roomAfter r (Is s) frame room) ≡ length room) × (drop n (roomAfter r (Is s) frame room) ≡ drop n room)))
+        → getD (roomAfterBy r (Is s) frame room) i 0
+        ≡ field (startAt (entryOf s t .widths) i) (widthAt (entryOf s t .widths) i) (unscrambled (r s) s frame))
+        × ((length (roomAfterBy r (Is s) frame room) ≡ length room) × (drop n (roomAfterBy r (Is s) frame room) ≡ drop n room)))
     unfolding clearBody
     accepted-values = (sym (answers.its-count r s frame room t n answer), exact.room-told r s frame room t n answer)
 
     -- "Writing an accepted frame's values gives that frame again"; a lent frame holds bytes and nothing else
     pub accepted-rewritten : Bytes frame → (output : List ℕ) → length frame ≤ length output
-        → let values = take n (roomAfter r (Is s) frame room) in
+        → let values = take n (roomAfterBy r (Is s) frame room) in
         (writing (Is s) t values output ≡ record { refusal = 0; answer = length frame })
-        × (outputAfter r (Is s) t values output ≡ frame ++ drop (length frame) output)
+        × (outputAfterBy r (Is s) t values output ≡ frame ++ drop (length frame) output)
     accepted-rewritten b output fills =
-        let values = take n (roomAfter r (Is s) frame room) in
+        let values = take n (roomAfterBy r (Is s) frame room) in
         let made = exact.written-alike r s frame room t n answer values output (exact.as-many r s frame room t n answer)
         (exact.all-fit r s frame room t n answer) fills in
         (made .0, made .1 ∙ ap (λ (l : List ℕ). l ++ drop (length frame) output) (exact.frame-of-values r s frame room t n answer b))
 
   -- so a number of 0 says that the frame is right, of the type that is answered
-  pub accepted-right : reading r (Is s) frame room .refusal ≡ 0 → Published r s (reading r (Is s) frame room .ty) frame
+  pub accepted-right : readingBy r (Is s) frame room .refusal ≡ 0 → Published (r s) s (readingBy r (Is s) frame room .ty) frame
   accepted-right e =
-      let a = reading r (Is s) frame room in
+      let a = readingBy r (Is s) frame room in
       accepted-published (a .ty) (a .count) (λ i. record { refusal = e i; ty = a .ty; count = a .count })
 
-module _ (r : Register) (s : Satellite) (t n : ℕ) (values output : List ℕ)
+module _ (r : Registers) (s : Satellite) (t n : ℕ) (values output : List ℕ)
     (answer : writing (Is s) t values output ≡ record { refusal = 0; answer = n }) where
   -- "It answers the length and fills that many bytes; bytes past the frame's end stay"
   pub written : (n ≡ typeByteAt s + entryOf s t .size)
-      × (Published r s t (take n (outputAfter r (Is s) t values output))
-      × ((length (outputAfter r (Is s) t values output) ≡ length output) × (drop n (outputAfter r (Is s) t values output) ≡ drop n output)))
+      × (Published (r s) s t (take n (outputAfterBy r (Is s) t values output))
+      × ((length (outputAfterBy r (Is s) t values output) ≡ length output) × (drop n (outputAfterBy r (Is s) t values output) ≡ drop n output)))
   written = (
     sym (answers.its-frame r s t values output n answer),
     (
-      subst (Published r s t) (sym (exact.output-front r s t n values output answer))
-          (frame-published r s t values (exact.was-carried r s t n values output answer)),
+      subst (Published (r s) s t) (sym (exact.output-front r s t n values output answer))
+          (frame-published (r s) s t values (exact.was-carried r s t n values output answer)),
       (exact.output-length r s t n values output answer, exact.output-behind r s t n values output answer),
     ),
   )
 
   -- "and reading a written frame gives the values back"
   pub written-reread : (room : List ℕ) → length values ≤ length room
-      → let frame = take n (outputAfter r (Is s) t values output) in
-      (reading r (Is s) frame room ≡ record { refusal = 0; ty = t; count = length values })
-      × (roomAfter r (Is s) frame room ≡ values ++ drop (length values) room)
+      → let frame = take n (outputAfterBy r (Is s) t values output) in
+      (readingBy r (Is s) frame room ≡ record { refusal = 0; ty = t; count = length values })
+      × (roomAfterBy r (Is s) frame room ≡ values ++ drop (length values) room)
   written-reread room enough =
       exact.reread r s t n values output answer room enough
-      (published-accepted r s (frameOf r s t values) room t (frame-published r s t values (exact.was-carried r s t n values output answer)))
+      (published-accepted r s (frameOf (r s) s t values) room t (frame-published (r s) s t values (exact.was-carried r s t n values output answer)))

@@ -16,18 +16,17 @@ use Rattle.scrambler.specs.declared.Direction.the-variants.{Unscramble}
 use Rattle.scrambler.proofs.Parts.{length-answer}
 use Rattle.satellites.specs.declared.Satellite.{Satellite}
 use Rattle.satellites.specs.Satellites.{addressOf, trainingOf, sizeByteOf, typeByteAt}
-use Rattle.layouts.specs.Rules.{every}
 use Rattle.layouts.specs.Layouts.{total, carries, layoutOf}
 use Rattle.layouts.proofs.Entries.{tiles-body}
-use Rattle.frames.specs.Tests.{Test, test, refusal, AllHold, Iff}
+use Rattle.refusals.specs.Tests.{Test, test, refusal, holding, Iff}
 use Rattle.frames.specs.Frames.{training, sync, ahead, typeByte, frameLength}
 use Rattle.frames.specs.Frames.{sizeIn, fromTypeByte, addressIn, bodyIn, clearBody, typeOf, entryIn}
 use Rattle.frames.specs.Reading.{preambled, frontTests, wholeTests}
-use Rattle.frames.proofs.Tests.{goes, none-left, Numbered, all-hold, behind-held, behind-failed, ahead-held}
+use Rattle.refusals.proofs.Tests.{goes, none-left, numbered, Numbered, holds-numbered, behind-held, behind-failed, ahead-held}
+use Rattle.refusals.proofs.Says.{equal, same-bytes, both, only-where}
 use Rattle.frames.proofs.Parts.{length-body}
 use Rattle.frames.proofs.Preambles.{is-ahead}
 use Rattle.frames.proofs.Sizes.{three-least, told-length}
-use Rattle.frames.proofs.Says.{equal, same-bytes, both, only-where}
 
 -- the byte at a place, and the first of those from there on
 pub first-at : (n : ℕ) (l : List ℕ) → getD (drop n l) 0 0 ≡ getD l n 0
@@ -55,25 +54,25 @@ module _ (s : Satellite) (frame : List ℕ) where
   unfolding frontTests
   none-fails a b c d e = goes 2 long _ a ∙ goes 3 preamble _ b ∙ goes 4 addressed _ c ∙ goes 5 carried _ d ∙ goes 6 sized [] e ∙ none-left
 
+  pub front-numbered : Numbered (frontTests s frame)
+  unfolding frontTests numbered
+  front-numbered = tt
+
   -- test 7, behind them
   module _ (front : refusal (frontTests s frame) ≡ 0) where
-    pub held : AllHold (frontTests s frame)
-    unfolding frontTests every
-    held = all-hold (frontTests s frame) tt front
-
     pub its-frame : layoutOf s (typeOf s frame) .frame ≡ frameLength s (typeOf s frame)
-    unfolding frontTests
-    its-frame = told-length s (typeOf s frame) (held 3 (omega arith))
+    unfolding frontTests holding
+    its-frame = told-length s (typeOf s frame) (holds-numbered (frontTests s frame) front-numbered front 5)
 
     pub whole-holds : length frame ≡ layoutOf s (typeOf s frame) .frame → refusal (wholeTests s frame) ≡ 0
     unfolding wholeTests
     whole-holds as-long =
-        behind-held (frontTests s frame) _ held
+        behind-held (frontTests s frame) _ front-numbered front
         ∙ goes 7 _ [] (eq-eqb (length frame) (frameLength s (typeOf s frame)) (as-long ∙ its-frame))
         ∙ none-left
 
-  whole-numbered : Numbered (wholeTests s frame)
-  unfolding wholeTests frontTests every
+  pub whole-numbered : Numbered (wholeTests s frame)
+  unfolding wholeTests frontTests numbered
   whole-numbered = tt
 
   -- other tests behind these, of a satellite that is named
@@ -86,7 +85,7 @@ module _ (s : Satellite) (frame : List ℕ) where
 
     pub whole-passes : refusal (wholeTests s frame) ≡ 0 → refusal named ≡ refusal us
     whole-passes e =
-        goes 1 true _ refl ∙ behind-held (wholeTests s frame) us (all-hold (wholeTests s frame) whole-numbered e)
+        goes 1 true _ refl ∙ behind-held (wholeTests s frame) us whole-numbered e
 
     pub was-whole : refusal named ≡ 0 → refusal (wholeTests s frame) ≡ 0
     was-whole e = ahead-held (wholeTests s frame) us (sym (goes 1 true _ refl) ∙ e)
@@ -96,42 +95,43 @@ module _ (s : Satellite) (frame : List ℕ) where
 
   -- where none of them fails
   module _ (whole : refusal (wholeTests s frame) ≡ 0) where
-    whole-held : AllHold (wholeTests s frame)
-    whole-held = all-hold (wholeTests s frame) whole-numbered whole
+    -- each of them by its number
+    holds : (k : ℕ) → holding k (wholeTests s frame) ≡ true
+    holds = holds-numbered (wholeTests s frame) whole-numbered whole
 
     pub is-long : typeByteAt s < length frame
-    unfolding wholeTests frontTests
-    is-long = ltb-true (typeByteAt s) (length frame) (whole-held 0 (omega arith))
+    unfolding wholeTests frontTests holding
+    is-long = ltb-true (typeByteAt s) (length frame) (holds 2)
 
     pub is-carried : carries s (typeOf s frame) ≡ true
-    unfolding wholeTests frontTests
-    is-carried = whole-held 3 (omega arith)
+    unfolding wholeTests frontTests holding
+    is-carried = holds 5
 
     pub is-whole : length frame ≡ frameLength s (typeOf s frame)
-    unfolding wholeTests frontTests
-    is-whole = eqb-true (length frame) (frameLength s (typeOf s frame)) (whole-held 5 (omega arith))
+    unfolding wholeTests frontTests holding
+    is-whole = eqb-true (length frame) (frameLength s (typeOf s frame)) (holds 7)
 
-    is-trained : take (trainingOf s) frame ≡ training s
-    unfolding wholeTests frontTests
-    is-trained = right-preamble .0 (whole-held 1 (omega arith)) .0
+    pub is-trained : take (trainingOf s) frame ≡ training s
+    unfolding wholeTests frontTests holding
+    is-trained = right-preamble .0 (holds 3) .0
 
-    is-synced : take 2 (drop (trainingOf s) frame) ≡ sync
-    unfolding wholeTests frontTests
-    is-synced = right-preamble .0 (whole-held 1 (omega arith)) .1
+    pub is-synced : take 2 (drop (trainingOf s) frame) ≡ sync
+    unfolding wholeTests frontTests holding
+    is-synced = right-preamble .0 (holds 3) .1
 
-    is-sized : sizeByteOf s ≡ true → sizeIn s frame ≡ entryIn s frame .size
-    unfolding wholeTests frontTests
+    pub is-sized : sizeByteOf s ≡ true → sizeIn s frame ≡ entryIn s frame .size
+    unfolding wholeTests frontTests holding
     is-sized =
         only-where (sizeByteOf s) (eqb (sizeIn s frame) (entryIn s frame .size))
-        (equal (sizeIn s frame) (entryIn s frame .size)) .0 (whole-held 4 (omega arith))
+        (equal (sizeIn s frame) (entryIn s frame .size)) .0 (holds 6)
+
+    pub is-addressed : getD (fromTypeByte s frame) 0 0 % 16 ≡ addressOf s
+    unfolding wholeTests frontTests holding
+    is-addressed = eqb-true (getD (fromTypeByte s frame) 0 0 % 16) (addressOf s) (holds 4)
 
     -- type and address are the type byte
     pub is-typed : getD (fromTypeByte s frame) 0 0 ≡ typeByte s (typeOf s frame)
-    unfolding wholeTests frontTests
-    is-typed =
-        let x = getD (fromTypeByte s frame) 0 0 in
-        let low : x % 16 ≡ addressOf s = eqb-true (x % 16) (addressOf s) (whole-held 2 (omega arith)) in
-        omega (arith, low)
+    is-typed = omega (arith, is-addressed)
 
     abbrev part : List ℕ
     part = fromTypeByte s frame

@@ -7,7 +7,7 @@ use mathlib.Core.Bool.{Bool, true, false, cond}
 use mathlib.Core.List.{List}
 use lib.Dec.{eqb}
 use lib.ListN.{length}
-use Rattle.scrambler.specs.Scrambler.{Register}
+use Rattle.frames.specs.Registers.{Registers}
 use Rattle.satellites.specs.declared.Satellite.{Satellite}
 use Rattle.satellites.specs.declared.Known.{Known}
 use Rattle.satellites.specs.declared.Known.the-variants.{Is, Unknown}
@@ -18,11 +18,11 @@ use Rattle.bodies.specs.Bodies.{fitting}
 use Rattle.bodies.proofs.Laws.{fitting-below}
 use Rattle.frames.specs.declared.Reading.{Reading}
 use Rattle.frames.specs.declared.Writing.{Writing}
-use Rattle.frames.specs.Tests.{refusal}
+use Rattle.refusals.specs.Tests.{refusal}
 use Rattle.frames.specs.Frames.{frameLength, typeOf}
-use Rattle.frames.specs.Reading.{reading, readingTests, acceptedReading, refusedReading}
+use Rattle.frames.specs.Reading.{readingBy, readingTests, acceptedReading, refusedReading}
 use Rattle.frames.specs.Writing.{writing, writingTests, acceptedWriting, refusedWriting}
-use Rattle.frames.specs.Editing.{editing, editingTests}
+use Rattle.frames.specs.Editing.{editingBy, editingTests}
 
 -- 19 bytes ahead of the type byte, and what a size byte can tell
 abbrev pub mostBytes : ℕ
@@ -42,8 +42,8 @@ frame-short s t = go (carries s t) refl
     go true carried = omega (arith, type-byte-most s, size-most s t carried)
     go false other = rw (no-entry s t other) (omega (arith, type-byte-most s))
 
-reading-small : (r : Register) (k : Known) (frame room : List ℕ) → reading r k frame room .count ≤ mostFields
-unfolding reading
+reading-small : (r : Registers) (k : Known) (frame room : List ℕ) → readingBy r k frame room .count ≤ mostFields
+unfolding readingBy
 reading-small r Unknown frame room = omega arith
 reading-small r (Is s) frame room = go (eqb (refusal (readingTests r (Is s) frame room)) 0) (refusal (readingTests r (Is s) frame room))
   where
@@ -51,7 +51,7 @@ reading-small r (Is s) frame room = go (eqb (refusal (readingTests r (Is s) fram
     go true number = fields-few s (typeOf s frame)
     go false number = omega arith
 
-pub count-small : (r : Register) (k : Known) (frame room : List ℕ) {told : Reading} → told ≡ reading r k frame room
+pub count-small : (r : Registers) (k : Known) (frame room : List ℕ) {told : Reading} → told ≡ readingBy r k frame room
     → told .count ≤ mostFields
 count-small r k frame room e = subst (λ (told : Reading). told .count ≤ mostFields) (sym e) (reading-small r k frame room)
 
@@ -83,16 +83,16 @@ written-small k t values output e =
     subst (λ (told : Writing). told .answer ≤ mostBytes) (sym e) (writing-small k t values output)
 
 -- in editing, the field that is told is the caller's own number
-editing-small : (r : Register) (k : Known) (frame : List ℕ) (field v most : ℕ) → mostBytes ≤ most → field ≤ most
-    → editing r k frame field v .answer ≤ most
-unfolding editing
+editing-small : (r : Registers) (k : Known) (frame : List ℕ) (field v most : ℕ) → mostBytes ≤ most → field ≤ most
+    → editingBy r k frame field v .answer ≤ most
+unfolding editingBy
 editing-small r Unknown frame field v most frames fields =
     refused-small (refusal (editingTests r Unknown frame field v)) field most fields
 editing-small r (Is s) frame field v most frames fields =
     let number = refusal (editingTests r (Is s) frame field v) in
     answer-small s (typeOf s frame) number field most (eqb number 0) frames fields
 
-pub edited-small : (r : Register) (k : Known) (frame : List ℕ) (field v : ℕ) {told : Writing} (most : ℕ) → mostBytes ≤ most
-    → field ≤ most → told ≡ editing r k frame field v → told .answer ≤ most
+pub edited-small : (r : Registers) (k : Known) (frame : List ℕ) (field v : ℕ) {told : Writing} (most : ℕ) → mostBytes ≤ most
+    → field ≤ most → told ≡ editingBy r k frame field v → told .answer ≤ most
 edited-small r k frame field v most frames fields e =
     subst (λ (told : Writing). told .answer ≤ most) (sym e) (editing-small r k frame field v most frames fields)

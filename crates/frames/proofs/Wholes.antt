@@ -20,7 +20,7 @@ use Rattle.satellites.specs.Satellites.{trainingOf, sizeByteOf, typeByteAt}
 use Rattle.layouts.specs.Layouts.{carries, entryOf}
 use Rattle.bodies.specs.Bodies.{told, tiled, fitting}
 use Rattle.bodies.proofs.Laws.{length-tiled, told-tiled, tiled-told}
-use Rattle.frames.specs.Tests.{refusal}
+use Rattle.refusals.specs.Tests.{refusal}
 use Rattle.frames.specs.Frames.{sizeIn, training, sync, sizeByte, ahead, typeByte, sealed, bodyOf, frameOf, frameLength}
 use Rattle.frames.specs.Frames.{fromTypeByte, checksumIn, bodyIn, covered, clearBody, clear, typeOf, entryIn, valuesOf}
 use Rattle.frames.specs.Reading.{wholeTests, checksumRight}

@@ -9,22 +9,22 @@ use mathlib.Core.List.{List, [], _∷_, _++_}
 use lib.Dec.{eqb, leb}
 use lib.ListN.{length, drop}
 use borrow.Author.Tests.{eq-eqb, ne-eqb, le-leb}
-use Rattle.scrambler.specs.Scrambler.{Register}
+use Rattle.frames.specs.Registers.{Registers}
 use Rattle.satellites.specs.declared.Satellite.{Satellite}
 use Rattle.satellites.specs.declared.Known.the-variants.{Is}
 use Rattle.layouts.specs.Layouts.{carries, entryOf}
 use Rattle.bodies.specs.Bodies.{fitting}
 use Rattle.frames.specs.declared.Writing.{Writing}
-use Rattle.frames.specs.Tests.{test, refusal}
+use Rattle.refusals.specs.Tests.{test, refusal}
 use Rattle.frames.specs.Frames.{frameOf, frameLength}
-use Rattle.frames.specs.Writing.{writingTests, acceptedWriting, refusedWriting, writing, outputAfter}
-use Rattle.frames.proofs.Tests.{goes, none-left}
+use Rattle.frames.specs.Writing.{writingTests, acceptedWriting, refusedWriting, writing, outputAfterBy}
+use Rattle.refusals.proofs.Tests.{goes, none-left}
 
 -- an answer that accepts, with the length that it tells
 abbrev pub wroteAs : ℕ → Writing
 wroteAs n = record { refusal = 0; answer = n }
 
-module _ (r : Register) (s : Satellite) (t : ℕ) (values output : List ℕ) where
+module _ (r : Registers) (s : Satellite) (t : ℕ) (values output : List ℕ) where
   abbrev number : ℕ
   number = refusal (writingTests (Is s) t values output)
 
@@ -36,16 +36,16 @@ module _ (r : Register) (s : Satellite) (t : ℕ) (values output : List ℕ) whe
 
   -- what a number means
   abbrev pub Refuses : ℕ → Type 0
-  Refuses k = (refusedWriting k lowest ≡ writing (Is s) t values output) × (output ≡ outputAfter r (Is s) t values output)
+  Refuses k = (refusedWriting k lowest ≡ writing (Is s) t values output) × (output ≡ outputAfterBy r (Is s) t values output)
 
   pub refused-with : (k : ℕ) → number ≡ k → (k ≡ 0 → ⊥) → Refuses k
-  unfolding writing outputAfter
+  unfolding writing outputAfterBy
   refused-with k e some = let no = ne-eqb k 0 some in (rw (e, no), rw (e, no))
 
   pub accepted-with : number ≡ 0
       → (acceptedWriting s t ≡ writing (Is s) t values output)
-      × (frameOf r s t values ++ drop (frameLength s t) output ≡ outputAfter r (Is s) t values output)
-  unfolding writing outputAfter
+      × (frameOf (r s) s t values ++ drop (frameLength s t) output ≡ outputAfterBy r (Is s) t values output)
+  unfolding writing outputAfterBy
   accepted-with e = (rw e, rw e)
 
   -- the tests

@@ -1,4 +1,4 @@
-pub mod Tests
+pub mod Registers
 pub mod Frames
 pub mod Reading
 pub mod Writing

@@ -12,13 +12,21 @@ use Rattle.satellites.specs.declared.Known.the-variants.{Is, Unknown}
 use Rattle.satellites.specs.Satellites.{addressOf, trainingOf, sizeByteOf, typeByteAt}
 use Rattle.layouts.specs.Layouts.{carries}
 use Rattle.frames.specs.declared.Reading.{Reading}
-use Rattle.frames.specs.Tests.{Test, test, refusal, same}
+use Rattle.refusals.specs.Tests.{Test, test, refusal, same}
+use Rattle.frames.specs.Registers.{Registers, registerOf}
 use Rattle.frames.specs.Frames.{training, sync, frameLength}
 use Rattle.frames.specs.Frames.{sizeIn, fromTypeByte, addressIn, checksumIn, clear, typeOf, entryIn, valuesOf}
 
--- training and sync are the satellite's
+-- the training is the satellite's
+abbrev pub trained : Satellite → List ℕ → Bool
+trained s frame = same (take (trainingOf s) frame) (training s)
+
+-- and sync follows it
+abbrev pub synced : Satellite → List ℕ → Bool
+synced s frame = same (take 2 (drop (trainingOf s) frame)) sync
+
 abbrev pub preambled : Satellite → List ℕ → Bool
-preambled s frame = same (take (trainingOf s) frame) (training s) && same (take 2 (drop (trainingOf s) frame)) sync
+preambled s frame = trained s frame && synced s frame
 
 -- 2 to 6, on a frame's front
 unfoldable pub frontTests : Satellite → List ℕ → List Test
@@ -51,12 +59,23 @@ checksumRight r part = eqb (checksumIn part) (checksum (clear r part))
 abbrev pub checksumTest : Register → Satellite → List ℕ → Test
 checksumTest r s frame = test 9 (checksumRight r (fromTypeByte s frame))
 
+-- 2 to 7 and 9: those on the frame alone, whatever room its values are given
+unfoldable pub frameTests : Register → Satellite → List ℕ → List Test
+frameTests r s frame = wholeTests s frame ++ (checksumTest r s frame ∷ [])
+
+-- "a frame is accepted", given room for its values: none of these fails
+abbrev pub acceptedBy : Register → Satellite → List ℕ → Bool
+acceptedBy r s frame = eqb (refusal (frameTests r s frame)) 0
+
+abbrev pub accepted : Satellite → List ℕ → Bool
+accepted s frame = acceptedBy (registerOf s) s frame
+
 -- "Reading (satellite, frame, room of 32-bit numbers) tests 1 to 9 in that order": 1, "satellite number above 6", is what
 -- the number names
-unfoldable pub readingTests : Register → Known → List ℕ → List ℕ → List Test
+unfoldable pub readingTests : Registers → Known → List ℕ → List ℕ → List Test
 readingTests r Unknown frame room = test 1 false ∷ []
 readingTests r (Is s) frame room =
-    test 1 true ∷ (wholeTests s frame ++ (roomTest s frame room ∷ checksumTest r s frame ∷ []))
+    test 1 true ∷ (wholeTests s frame ++ (roomTest s frame room ∷ checksumTest (r s) s frame ∷ []))
 
 -- "It answers the number, the type and the field count"
 abbrev pub acceptedReading : Satellite → List ℕ → Reading
@@ -66,14 +85,23 @@ acceptedReading s frame = record { refusal = 0; ty = typeOf s frame; count = len
 abbrev pub refusedReading : ℕ → Reading
 refusedReading number = record { refusal = number; ty = 0; count = 0 }
 
-unfoldable pub reading : Register → Known → List ℕ → List ℕ → Reading
-reading r Unknown frame room = refusedReading (refusal (readingTests r Unknown frame room))
-reading r (Is s) frame room =
+unfoldable pub readingBy : Registers → Known → List ℕ → List ℕ → Reading
+readingBy r Unknown frame room = refusedReading (refusal (readingTests r Unknown frame room))
+readingBy r (Is s) frame room =
     let number = refusal (readingTests r (Is s) frame room) in
     cond (eqb number 0) (acceptedReading s frame) (refusedReading number)
 
 -- "and fills that many places of the room; later places stay"
-unfoldable pub roomAfter : Register → Known → List ℕ → List ℕ → List ℕ
-roomAfter r Unknown frame room = room
-roomAfter r (Is s) frame room =
-    cond (eqb (refusal (readingTests r (Is s) frame room)) 0) (valuesOf r s frame ++ drop (length (entryIn s frame .widths)) room) room
+unfoldable pub roomAfterBy : Registers → Known → List ℕ → List ℕ → List ℕ
+roomAfterBy r Unknown frame room = room
+roomAfterBy r (Is s) frame room =
+    cond (eqb (refusal (readingTests r (Is s) frame room)) 0)
+    (valuesOf (r s) s frame ++ drop (length (entryIn s frame .widths)) room)
+    room
+
+-- the two that the contract of reading cites, with the satellite's register
+abbrev pub reading : Known → List ℕ → List ℕ → Reading
+reading k frame room = readingBy registerOf k frame room
+
+abbrev pub roomAfter : Known → List ℕ → List ℕ → List ℕ
+roomAfter k frame room = roomAfterBy registerOf k frame room

@@ -4,14 +4,14 @@ use mathlib.Core.Bool.{true, false, cond}
 use mathlib.Core.List.{List, [], _∷_, _++_}
 use lib.ListN.{length, drop}
 use lib.Dec.{eqb, leb}
-use Rattle.scrambler.specs.Scrambler.{Register}
 use Rattle.satellites.specs.declared.Satellite.{Satellite}
 use Rattle.satellites.specs.declared.Known.{Known}
 use Rattle.satellites.specs.declared.Known.the-variants.{Is, Unknown}
 use Rattle.layouts.specs.Layouts.{carries, entryOf}
 use Rattle.bodies.specs.Bodies.{fitting}
 use Rattle.frames.specs.declared.Writing.{Writing}
-use Rattle.frames.specs.Tests.{Test, test, refusal}
+use Rattle.refusals.specs.Tests.{Test, test, refusal}
+use Rattle.frames.specs.Registers.{Registers, registerOf}
 use Rattle.frames.specs.Frames.{frameOf, frameLength}
 
 -- "Writing (satellite, type, values, output) tests 1, 5, 10, 11, 12"
@@ -44,7 +44,11 @@ writing (Is s) t values output =
     cond (eqb number 0) (acceptedWriting s t) (refusedWriting number (fitting (entryOf s t .widths) values))
 
 -- "and fills that many bytes; bytes past the frame's end stay"
-unfoldable pub outputAfter : Register → Known → ℕ → List ℕ → List ℕ → List ℕ
-outputAfter r Unknown t values output = output
-outputAfter r (Is s) t values output =
-    cond (eqb (refusal (writingTests (Is s) t values output)) 0) (frameOf r s t values ++ drop (frameLength s t) output) output
+unfoldable pub outputAfterBy : Registers → Known → ℕ → List ℕ → List ℕ → List ℕ
+outputAfterBy r Unknown t values output = output
+outputAfterBy r (Is s) t values output =
+    cond (eqb (refusal (writingTests (Is s) t values output)) 0) (frameOf (r s) s t values ++ drop (frameLength s t) output) output
+
+-- what the contract of writing cites, with the satellite's register. The answer needs none
+abbrev pub outputAfter : Known → ℕ → List ℕ → List ℕ → List ℕ
+outputAfter k t values output = outputAfterBy registerOf k t values output

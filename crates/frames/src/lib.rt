@@ -2,8 +2,6 @@
 //
 // The definitions and the demands, as theorems, are in specs/ and proofs/. The code that reads, writes and edits is in the crates
 // above, whose contracts cite these definitions; here are the answers that they give.
-pub mod refusal;
-
 ghost use mathlib.Core.Path.{_≡_};
 ghost use Rattle.frames.specs.Reading.{refusedReading};
 ghost use Rattle.frames.specs.Writing.{refusedWriting};
@@ -40,7 +38,7 @@ impl Writing {
     pub fn refused(number: u32, field: usize) -> Writing
         ensures { λ r. ⌜ r ≡ refusedWriting number field ⌝ }
     {
-        if number == refusal::VALUE {
+        if number == refusals::VALUE {
             return Writing {
                 refusal: number,
                 answer: field,

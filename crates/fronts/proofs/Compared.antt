@@ -8,9 +8,9 @@ use mathlib.Core.List.{List}
 use lib.ListN.{take, drop}
 use Rattle.satellites.specs.declared.Satellite.{Satellite}
 use Rattle.satellites.specs.Satellites.{trainingOf}
-use Rattle.frames.specs.Tests.{same}
+use Rattle.refusals.specs.Tests.{same}
 use Rattle.frames.specs.Frames.{training, sync}
-use Rattle.frames.proofs.Tests.{same-equal, equal-same}
+use Rattle.refusals.proofs.Tests.{same-equal, equal-same}
 use Rattle.frames.proofs.Preambles.{sixteen, training-taken}
 
 -- what a comparison tells, as a test

@@ -12,11 +12,11 @@ use borrow.Author.Tests.{eq-eqb, ne-eqb}
 use Rattle.satellites.specs.declared.Satellite.{Satellite}
 use Rattle.satellites.specs.Satellites.{sizeByteOf}
 use Rattle.layouts.specs.Layouts.{layoutOf}
-use Rattle.frames.specs.Tests.{refusal}
+use Rattle.refusals.specs.Tests.{refusal}
 use Rattle.frames.specs.Frames.{frameLength, sizeIn, typeOf, entryIn}
 use Rattle.frames.specs.Reading.{frontTests, wholeTests}
-use Rattle.frames.proofs.Tests.{stops, goes, behind-held, behind-failed}
-use Rattle.frames.proofs.Fronts.{long, preamble, addressed, carried, sized, held, its-frame}
+use Rattle.refusals.proofs.Tests.{stops, goes, behind-held, behind-failed}
+use Rattle.frames.proofs.Fronts.{long, preamble, addressed, carried, sized, front-numbered, its-frame}
 
 module _ (s : Satellite) (frame : List ℕ) where
   -- test 6, by whether there is a size byte
@@ -63,5 +63,5 @@ module _ (s : Satellite) (frame : List ℕ) where
       → (length frame ≡ layoutOf s (typeOf s frame) .frame → ⊥) → refusal (wholeTests s frame) ≡ 7
   unfolding wholeTests
   fails-7 front other =
-      behind-held (frontTests s frame) _ (held s frame front)
+      behind-held (frontTests s frame) _ (front-numbered s frame) front
       ∙ stops 7 _ [] (ne-eqb (length frame) (frameLength s (typeOf s frame)) (λ e. other (e ∙ sym (its-frame s frame front))))

@@ -9,7 +9,7 @@ use lib.Seq.{take-all}
 use Rattle.satellites.specs.declared.Satellite.{Satellite}
 use Rattle.satellites.specs.Satellites.{typeByteAt}
 use Rattle.layouts.proofs.Entries.{size-most}
-use Rattle.frames.specs.Tests.{refusal}
+use Rattle.refusals.specs.Tests.{refusal}
 use Rattle.frames.specs.Frames.{fromTypeByte, typeOf}
 use Rattle.frames.specs.Reading.{wholeTests}
 use Rattle.frames.proofs.Fronts.{is-long, is-carried, part-length, part-least}

@@ -1,4 +1,6 @@
 mod Compared
 mod Fails
+mod Written
+pub mod Filled
 pub mod Lent
 pub mod Determined

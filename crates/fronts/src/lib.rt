@@ -1,44 +1,30 @@
-// Tests 2 to 7 on a frame: what its front tells, up to its type byte, and the length that a frame of that type has.
+// The front of a frame, up to its type byte: what comes before that byte, compared and written, and tests 2 to 6. A whole frame is also
+// tested for its length, test 7.
 mod preamble;
 
 ghost use mathlib.Core.Path.{_≡_};
 ghost use Rattle.layouts.specs.Layouts.{carries};
-ghost use Rattle.frames.specs.Tests.{refusal};
+ghost use Rattle.refusals.specs.Tests.{refusal};
 ghost use Rattle.frames.specs.Frames.{typeOf, entryIn};
 ghost use Rattle.frames.specs.Reading.{frontTests, wholeTests};
 ghost use Rattle.fronts.specs.Fronts.{frontOf};
-use frames::refusal;
 use layouts::Layout;
 use satellites::Satellite;
 
-// The type, and its layout, are told of a refused front too; where the front ends ahead of the type byte, those of type 0.
+// Training and sync, and the function that writes all that comes before the type byte.
+pub use preamble::SYNC;
+pub use preamble::TRAINING;
+pub use preamble::write;
+
+// A refused front has a type and a layout too; where the front ends before the type byte, those of type 0.
 pub struct Front {
     pub refusal: u32,
     pub ty: u32,
     pub layout: Layout,
 }
 
-// Tests 2 to 7.
-pub fn whole(satellite: Satellite, frame: &[u8]) -> Front
-    ensures { λ r. ⌜ r ≡ frontOf (wholeTests satellite (now (frame .entry))) satellite (now (frame .entry)) ⌝ }
-{
-    let front = of(satellite, frame);
-    let number = front.refusal;
-    let layout = front.layout;
-    if number == refusal::ACCEPTED {
-        if frame.len() != layout.frame {
-            return Front {
-                refusal: refusal::LENGTH,
-                ty: front.ty,
-                layout,
-            };
-        }
-    }
-    front
-}
-
-// Tests 2 to 6.
-fn of(satellite: Satellite, frame: &[u8]) -> Front
+// Tests 2 to 6, whatever comes behind the type byte.
+pub fn of(satellite: Satellite, frame: &[u8]) -> Front
     ensures { λ r. ⌜ r ≡ frontOf (frontTests satellite (now (frame .entry))) satellite (now (frame .entry)) ⌝ }
 {
     let ty = type_sent(satellite, frame);
@@ -49,6 +35,25 @@ fn of(satellite: Satellite, frame: &[u8]) -> Front
         ty,
         layout,
     }
+}
+
+// Tests 2 to 7, on a whole frame.
+pub fn whole(satellite: Satellite, frame: &[u8]) -> Front
+    ensures { λ r. ⌜ r ≡ frontOf (wholeTests satellite (now (frame .entry))) satellite (now (frame .entry)) ⌝ }
+{
+    let front = of(satellite, frame);
+    let number = front.refusal;
+    let layout = front.layout;
+    if number == refusals::ACCEPTED {
+        if frame.len() != layout.frame {
+            return Front {
+                refusal: refusals::LENGTH,
+                ty: front.ty,
+                layout,
+            };
+        }
+    }
+    front
 }
 
 // The type in the type byte; 0 where the frame ends ahead of it.
@@ -70,21 +75,21 @@ fn test(satellite: Satellite, frame: &[u8], carried: bool, size: usize) -> u32
 {
     let at = satellite.type_byte_at();
     if frame.len() <= at {
-        return refusal::SHORT;
+        return refusals::SHORT;
     }
     if !preamble::is_right(satellite, frame) {
-        return refusal::PREAMBLE;
+        return refusals::PREAMBLE;
     }
     if frame[at] % 16 != satellite.address() {
-        return refusal::ADDRESS;
+        return refusals::ADDRESS;
     }
     if !carried {
-        return refusal::TYPE;
+        return refusals::TYPE;
     }
     if satellite.has_size_byte() {
         if frame[at - 1] as usize != size {
-            return refusal::SIZE;
+            return refusals::SIZE;
         }
     }
-    refusal::ACCEPTED
+    refusals::ACCEPTED
 }

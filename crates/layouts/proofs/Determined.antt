@@ -6,6 +6,7 @@ use mathlib.Core.Path.{_≡_, sym, _∙_}
 use Rattle.layouts.proofs.of.Reads as layout
 use Rattle.layouts.proofs.Layout.width.Reads as width
 use Rattle.layouts.proofs.Layout.start.Reads as start
+use Rattle.layouts.proofs.Layout.first_behind_clock.Reads as first-behind-clock
 
 pub of-determined : (κs a r r′ s s′ : _) → layout.Post κs a r s → layout.Post κs a r′ s′ → r ≡ r′
 of-determined κs a r r′ s s′ p q = p ∙ sym q
@@ -16,6 +17,9 @@ width-determined κs a r r′ s s′ p q = p ∙ sym q
 pub start-determined : (κs a r r′ s s′ : _) → start.Post κs a r s → start.Post κs a r′ s′ → r ≡ r′
 start-determined κs a r r′ s s′ p q = p ∙ sym q
 
+pub first-behind-clock-determined : (κs a r r′ s s′ : _) → first-behind-clock.Post κs a r s → first-behind-clock.Post κs a r′ s′ → r ≡ r′
+first-behind-clock-determined κs a r r′ s s′ p q = p ∙ sym q
+
 pub layout-asks-nothing : (κs a : _) → layout.Pre κs a
 layout-asks-nothing κs a = tt
 
@@ -24,3 +28,6 @@ width-asks-nothing κs a = tt
 
 pub start-asks-nothing : (κs a : _) → start.Pre κs a
 start-asks-nothing κs a = tt
+
+pub first-behind-clock-asks-nothing : (κs a : _) → first-behind-clock.Pre κs a
+first-behind-clock-asks-nothing κs a = tt

@@ -1,7 +1,9 @@
 pub mod Entries
 pub mod Places
 pub mod Laid
+pub mod Clocks
 pub mod Sensors
+pub mod Contracts
 pub mod Determined
 mod Told
 mod Kept

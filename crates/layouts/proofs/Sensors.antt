@@ -1,5 +1,5 @@
--- The temperatures of type 2: every satellite carries the type, from its first temperature on the fields are ten of 8 bits, and
--- nothing is behind them; and where each of the ten stands.
+-- The temperatures of type 2: every satellite carries the type, the fields behind the clock, if there is one, are ten of 8 bits and
+-- nothing else; and where each of the ten stands.
 -- Assumes nothing.
 use Prim.Native.Nat.{ℕ, zero, suc, _+_, _*_, _<_}
 use native.Mathlib.Nat.{add-zero, add-suc}
@@ -11,8 +11,8 @@ use lib.ListN.{length, getD, drop, length-drop, getD-replicate}
 use lib.Seq.{getD-drop}
 use Rattle.satellites.specs.declared.Satellite.{Satellite}
 use Rattle.satellites.specs.declared.Satellite.the-variants.{HadesD, HadesIcm, MariaG, Unne1, HadesR, Unne1b, HadesSa}
-use Rattle.satellites.specs.Satellites.{firstTemperatureOf}
-use Rattle.layouts.specs.Layouts.{among, carriedBy, carries, counted, entryOf, found, startAt, table, ten, total, widthAt}
+use Rattle.layouts.specs.Layouts.{among, carriedBy, carries, counted, entryOf, firstBehindClock, found, startAt, table, ten, widthAt}
+use Rattle.layouts.proofs.Clocks.{start-behind-clock}
 use Rattle.layouts.proofs.Places.{start-next}
 
 -- every satellite carries type 2
@@ -27,7 +27,7 @@ carries-2 Unne1b = refl
 carries-2 HadesSa = refl
 
 -- "Ten temperatures", 8 bits each, are the last fields of type 2
-pub ten-from : (s : Satellite) → drop (firstTemperatureOf s) (entryOf s 2 .widths) ≡ ten
+pub ten-from : (s : Satellite) → drop (firstBehindClock (entryOf s 2 .clock)) (entryOf s 2 .widths) ≡ ten
 unfolding table counted among carriedBy found
 ten-from HadesD = refl
 ten-from HadesIcm = refl
@@ -37,20 +37,9 @@ ten-from HadesR = refl
 ten-from Unne1b = refl
 ten-from HadesSa = refl
 
--- the first stands at the body's start, or behind a clock of 32 bits
-first-start : (s : Satellite) → startAt (entryOf s 2 .widths) (firstTemperatureOf s) ≡ 32 * firstTemperatureOf s
-unfolding table counted among carriedBy found total
-first-start HadesD = refl
-first-start HadesIcm = refl
-first-start MariaG = refl
-first-start Unne1 = refl
-first-start HadesR = refl
-first-start Unne1b = refl
-first-start HadesSa = refl
-
 module _ (s : Satellite) where
   abbrev first : ℕ
-  first = firstTemperatureOf s
+  first = firstBehindClock (entryOf s 2 .clock)
 
   abbrev ws : List ℕ
   ws = entryOf s 2 .widths
@@ -65,7 +54,7 @@ module _ (s : Satellite) where
 
   -- and starts where the one before ends
   pub sensor-start : (k : ℕ) → k < 10 → startAt ws (first + k) ≡ 32 * first + 8 * k
-  sensor-start zero h = ap (startAt ws) (add-zero first) ∙ first-start s ∙ omega arith
+  sensor-start zero h = ap (startAt ws) (add-zero first) ∙ start-behind-clock s 2 ∙ omega arith
   sensor-start (suc k) h =
       let ahead : k < 10 = omega (arith, h) in
       ap (startAt ws) (add-suc first k)

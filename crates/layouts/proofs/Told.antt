@@ -4,12 +4,12 @@ use Prim.Native.Nat.{ℕ, _+_, _≤_}
 use native.Mathlib.Omega.{arith}
 use mathlib.Core.Path.{_≡_, refl, sym, _∙_, ap, subst}
 use mathlib.Core.Bool.{Bool, true, false, cond}
-use lib.ListN.{length, getD, drop, replicate}
+use lib.ListN.{length, getD, replicate}
 use Rattle.satellites.specs.declared.Satellite.{Satellite}
 use Rattle.satellites.specs.Satellites.{typeByteAt}
 use Rattle.layouts.specs.declared.widths.Widths.{Widths}
 use Rattle.layouts.specs.Layouts.{mostFields, entryOf, carries, layoutOf, laid}
-use Rattle.layouts.specs.Rows.{Row, says, unrolled, widthsOf}
+use Rattle.layouts.specs.Rows.{Row, says, widthsOf}
 use Rattle.layouts.proofs.Entries.{tiles-body, size-most, fields-most, no-entry}
 
 by-test : {A : Type 0} (b : Bool) → (b ≡ true → A) → (b ≡ false → A) → A
@@ -29,13 +29,14 @@ is-carried s t some =
     by-test (carries s t) (λ carried. carried) (λ other. absurd (some (ap (λ e. e .size) (no-entry s t other))))
 
 pub told-nothing : (s : Satellite) (t : ℕ) (r : Row) → says r ≡ entryOf s t → getD r 1 0 ≡ 0
-    → record { carried = false; fields = 0; size = 0; frame = 0; widths = replicate mostFields 0 } ≡ layoutOf s t
+    → record { carried = false; fields = 0; size = 0; frame = 0; clock = false; widths = replicate mostFields 0 }
+    ≡ layoutOf s t
 told-nothing s t r same none =
     let other = not-carried s t (ap (λ e. e .size) (sym same) ∙ none) in
     rw (other, no-entry s t other)
 
 -- the widths of a row have their places
-pub row-fits : (s : Satellite) (t : ℕ) (r : Row) → says r ≡ entryOf s t → length (unrolled (drop 2 r)) ≤ mostFields
+pub row-fits : (s : Satellite) (t : ℕ) (r : Row) → says r ≡ entryOf s t → length (says r .widths) ≤ mostFields
 row-fits s t r same =
     subst (λ e. length (e .widths) ≤ mostFields) (sym same)
     (by-test (carries s t) (λ carried. fields-most s t carried)
@@ -47,10 +48,18 @@ row-small s t r same =
     (by-test (carries s t) (λ carried. size-most s t carried)
     (λ other. subst (λ e. e .size ≤ 255) (sym (no-entry s t other)) (omega arith)))
 
-pub told-row : (s : Satellite) (t : ℕ) (r : Row) (all : Widths) (ahead : ℕ) → says r ≡ entryOf s t → (getD r 1 0 ≡ 0 → ⊥)
-    → all ≡ widthsOf (unrolled (drop 2 r)) → ahead ≡ typeByteAt s
-    → record { carried = true; fields = all .fields; size = getD r 1 0; frame = ahead + getD r 1 0; widths = all .bits } ≡ layoutOf s t
-told-row s t r all ahead same some unrolled-all at =
+pub told-row : (s : Satellite) (t : ℕ) (r : Row) (all : Widths) (ahead : ℕ) (clock : Bool) → says r ≡ entryOf s t → (getD r 1 0 ≡ 0 → ⊥)
+    → all ≡ widthsOf (says r .widths) → ahead ≡ typeByteAt s → clock ≡ says r .clock
+    → record {
+      carried = true;
+      fields = all .fields;
+      size = getD r 1 0;
+      frame = ahead + getD r 1 0;
+      clock = clock;
+      widths = all .bits;
+    }
+    ≡ layoutOf s t
+told-row s t r all ahead clock same some unrolled-all at starts =
     let carried = is-carried s t (λ none. some (ap (λ e. e .size) same ∙ none)) in
     let size = ap (λ e. e .size) same in
     let widths = ap (λ e. e .widths) same in
@@ -64,5 +73,6 @@ told-row s t r all ahead same some unrolled-all at =
       fields = (ap (λ a. a .fields) unrolled-all ∙ ap length widths) i;
       size = size i;
       frame = frame i;
+      clock = (starts ∙ ap (λ e. e .clock) same) i;
       widths = (ap (λ a. a .bits) unrolled-all ∙ ap laid widths) i;
     }

@@ -1,6 +1,6 @@
 -- The field tables (01, "The field tables"; FORMAT 6), and what a program is told of a type that a satellite carries.
 use Prim.Native.Nat.{ℕ, zero, suc, _+_, _-_}
-use mathlib.Core.Bool.{Bool, false, _||_, cond}
+use mathlib.Core.Bool.{Bool, true, false, _||_, cond}
 use mathlib.Core.List.{List, [], _∷_, _++_, map}
 use lib.ListN.{length, getD, take, replicate}
 use lib.Dec.{eqb}
@@ -31,10 +31,11 @@ only n = n ∷ []
 abbrev pub ten : List ℕ
 ten = 10 of 8
 
--- a type as a satellite has it: its fields' widths in the order of their numbers, and its size, the bytes from type byte
--- to checksum
+-- a type as a satellite has it: whether the first field is the satellite's clock, the fields' widths in the order of their
+-- numbers, and its size, the bytes from type byte to checksum
 pub record Entry : Type 0 where
   pub frameType : ℕ
+  pub clock : Bool
   pub widths : List ℕ
   pub size : ℕ
 
@@ -43,33 +44,38 @@ pub record Line : Type 0 where
   pub sentBy : List ℕ
   pub entry : Entry
 
+-- its columns: type, fields, sent by, from type byte to checksum
 abbrev pub line : ℕ → List ℕ → List ℕ → ℕ → Line
 line frameType widths sentBy size =
-    record { sentBy = sentBy; entry = record { frameType = frameType; widths = widths; size = size } }
+    record { sentBy = sentBy; entry = record { frameType = frameType; clock = false; widths = widths; size = size } }
 
--- type, fields, sent by, from type byte to checksum
+-- the same of a line "clock 32, ..": the fields are the clock and these
+abbrev pub clocked : ℕ → List ℕ → List ℕ → ℕ → Line
+clocked frameType widths sentBy size =
+    record { sentBy = sentBy; entry = record { frameType = frameType; clock = true; widths = 32 ∷ widths; size = size } }
+
 unfoldable pub table : List Line
 table =
     -- ten temperatures
     line 2 ten (only 0) 13
     -- clock 32, ten temperatures
-    ∷ line 2 (32 ∷ ten) (1 to 6) 17
+    ∷ clocked 2 ten (1 to 6) 17
     -- ten minima, ten maxima, ten means
     ∷ line 5 (ten ++ ten ++ ten) (only 0) 33
     -- clock 32, ten minima, ten maxima
-    ∷ line 5 (32 ∷ ten ++ ten) (1 to 6) 27
+    ∷ clocked 5 (ten ++ ten) (1 to 6) 27
     -- 6 of 16, 48 of 16, 8 of 16, 8 of 8
     ∷ line 6 (6 of 16 ++ 48 of 16 ++ 8 of 16 ++ 8 of 8) (1 to 5) 135
     -- clock 32, message number 8, 93 characters of 8
-    ∷ line 7 (32 ∷ 8 ∷ 93 of 8) (only 1) 101
+    ∷ clocked 7 (8 ∷ 93 of 8) (only 1) 101
     -- 8 of 16, 32, 16, then 4, 2, 1, 1, then 8, 8
     ∷ line 8 (8 of 16 ++ 32 ∷ 16 ∷ 4 ∷ 2 ∷ 1 ∷ 1 ∷ 8 ∷ 8 ∷ []) (only 0) 28
     -- 8 of 16, 32, 16, then 6 of 8
     ∷ line 8 (8 of 16 ++ 32 ∷ 16 ∷ 6 of 8) (only 6) 31
     -- clock 32, week 8, status 8, 8 of 8
-    ∷ line 10 (32 ∷ 8 ∷ 8 ∷ 8 of 8) (3 ∷ 5 ∷ []) 17
+    ∷ clocked 10 (8 ∷ 8 ∷ 8 of 8) (3 ∷ 5 ∷ []) 17
     -- clock 32, 2 of 8
-    ∷ line 11 (32 ∷ 2 of 8) (only 2) 9
+    ∷ clocked 11 (2 of 8) (only 2) 9
     -- UTC 32, 16, 12 of 32, latitude, longitude, height 16 each, 8
     ∷ line 12 (32 ∷ 16 ∷ 12 of 32 ++ 16 ∷ 16 ∷ 16 ∷ 8 ∷ []) (1 to 6) 64
     ∷ []
@@ -90,7 +96,7 @@ entriesOf s = carriedBy (numberOf s) table
 
 -- no fields and no bytes
 abbrev pub nothing : Entry
-nothing = record { frameType = 0; widths = []; size = 0 }
+nothing = record { frameType = 0; clock = false; widths = []; size = 0 }
 
 -- the entry of a type, and nothing where there is none
 unfoldable pub found : ℕ → List Entry → Entry
@@ -124,6 +130,7 @@ layoutOf s t =
       fields = length (entryOf s t .widths);
       size = entryOf s t .size;
       frame = cond (carries s t) (typeByteAt s + entryOf s t .size) 0;
+      clock = entryOf s t .clock;
       widths = laid (entryOf s t .widths);
     }
 
@@ -139,3 +146,7 @@ widthAt widths field = getD widths field 0
 
 abbrev pub startAt : List ℕ → ℕ → ℕ
 startAt widths field = total (take field widths)
+
+-- the first field that is not the clock, by whether the fields start with one
+abbrev pub firstBehindClock : Bool → ℕ
+firstBehindClock clock = cond clock 1 0

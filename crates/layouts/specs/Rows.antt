@@ -1,7 +1,9 @@
--- How the code keeps the table: a row is its type, its size, and then pairs, so many fields of so many bits; and there are
--- six rows to a satellite, those that it does not need being empty.
+-- How the code keeps the table: a row is its type, its size, and then pairs, so many fields of so many bits; a first pair of 1 of 32
+-- is the clock. There are six rows to a satellite, those that it does not need being empty.
 use Prim.Native.Nat.{ℕ, _-_}
+use mathlib.Core.Bool.{_&&_}
 use mathlib.Core.List.{List, [], _∷_, _++_}
+use lib.Dec.{eqb}
 use lib.ListN.{length, getD, drop, replicate}
 use Rattle.satellites.specs.declared.Satellite.{Satellite}
 use Rattle.layouts.specs.declared.widths.Widths.{Widths}
@@ -17,7 +19,13 @@ abbrev pub Row : Type 0
 Row = List ℕ
 
 abbrev pub says : Row → Entry
-says row = record { frameType = getD row 0 0; widths = unrolled (drop 2 row); size = getD row 1 0 }
+says row =
+    record {
+      frameType = getD row 0 0;
+      clock = eqb (getD row 2 0) 1 && eqb (getD row 3 0) 32;
+      widths = unrolled (drop 2 row);
+      size = getD row 1 0;
+    }
 
 abbrev pub kept : Satellite → List Entry
 kept s = entriesOf s ++ replicate (6 - length (entriesOf s)) nothing

@@ -3,19 +3,21 @@ mod table;
 mod widths;
 
 ghost use mathlib.Core.Path.{_≡_};
-ghost use Rattle.layouts.specs.Layouts.{layoutOf, widthAt, startAt};
+ghost use Rattle.layouts.specs.Layouts.{layoutOf, widthAt, startAt, firstBehindClock};
 use satellites::Satellite;
 
 // No row has more fields.
 pub const MOST_FIELDS: usize = 95;
 
-// What a satellite's type is made of: how many fields, their widths in bits, the bytes from type byte to checksum, and the
-// bytes of the whole frame. It is fetched once and then walked. A type that is not carried has none of these.
+// What a satellite's type is made of: how many fields, their widths in bits, the bytes from type byte to checksum, the bytes
+// of the whole frame, and whether the first field is the satellite's clock, 32 bits. It is fetched once and then walked. A type
+// that is not carried has none of these.
 pub struct Layout {
     pub carried: bool,
     pub fields: usize,
     pub size: usize,
     pub frame: usize,
+    pub clock: bool,
     pub widths: [u8; MOST_FIELDS],
 }
 
@@ -31,16 +33,20 @@ pub fn of(satellite: Satellite, ty: u32) -> Layout
             fields: 0,
             size: 0,
             frame: 0,
+            clock: false,
             widths: [0; MOST_FIELDS],
         };
     }
     let all = widths::unroll(row);
     let bits = all.bits;
+    let frame = satellite.type_byte_at() + size;
+    let clock = table::starts_with_clock(row);
     Layout {
         carried: true,
         fields: all.fields,
         size,
-        frame: satellite.type_byte_at() + size,
+        frame,
+        clock,
         widths: bits,
     }
 }
@@ -71,5 +77,12 @@ impl Layout {
             k += 1;
         }
         bit
+    }
+
+    // The first field that is not the clock: 1 where the fields start with one, else 0.
+    pub fn first_behind_clock(self) -> usize
+        ensures { λ r. ⌜ r ≡ firstBehindClock (self .clock) ⌝ }
+    {
+        if self.clock { 1 } else { 0 }
     }
 }

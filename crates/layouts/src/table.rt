@@ -1,7 +1,8 @@
 // The field tables (01, "The field tables"; FORMAT 6): a table of satellites, each with its rows.
 //
 // A row is its type, the bytes from type byte to checksum, and then its fields in pairs, so many of so many bits
-// ("48 of 16"), with zeros behind them.
+// ("48 of 16"), with zeros behind them. A first pair of 1 of 32 is the satellite's clock ("clock 32"): a row that starts with another
+// field of 32 bits has an empty pair ahead.
 ghost use mathlib.Core.Path.{_≡_};
 ghost use mathlib.Core.List.{map};
 ghost use Prim.Native.Nat.{_<_};
@@ -49,8 +50,8 @@ const TYPE_10: Row = [10, 17, 1, 32, 1, 8, 1, 8, 8, 8, 0, 0, 0, 0, 0, 0];
 // clock 32, 2 of 8
 const TYPE_11: Row = [11, 9, 1, 32, 2, 8, 0, 0, 0, 0, 0, 0, 0, 0, 0, 0];
 
-// UTC 32, 16, 12 of 32, latitude, longitude, height 16 each, 8
-const TYPE_12: Row = [12, 64, 1, 32, 1, 16, 12, 32, 3, 16, 1, 8, 0, 0, 0, 0];
+// UTC 32, 16, 12 of 32, latitude, longitude, height 16 each, 8. UTC is no clock
+const TYPE_12: Row = [12, 64, 0, 0, 1, 32, 1, 16, 12, 32, 3, 16, 1, 8, 0, 0];
 
 const NO_ROW: Row = [0; NUMBERS];
 
@@ -69,6 +70,16 @@ pub(crate) fn row_of(satellite: Satellite, ty: u32) -> Row
     ensures { λ r. ⌜ says r ≡ entryOf satellite ty ⌝ }
 {
     find(rows_of(satellite), ty)
+}
+
+// Whether its first field is the clock.
+pub(crate) fn starts_with_clock(row: Row) -> bool
+    ensures { λ r. ⌜ r ≡ says row .clock ⌝ }
+{
+    if row[2] != 1 {
+        return false;
+    }
+    row[3] == 32
 }
 
 fn find(rows: [Row; ROWS], ty: u32) -> Row

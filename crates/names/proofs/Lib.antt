@@ -1,5 +1,6 @@
 pub mod Along
 pub mod Arrays
+pub mod Clocks
 pub mod Counted
 pub mod Determined
 pub mod Distinct

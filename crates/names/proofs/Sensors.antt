@@ -4,13 +4,12 @@ use mathlib.Core.Path.{_≡_, refl}
 use lib.ListN.{drop}
 use Rattle.satellites.specs.declared.Satellite.{Satellite}
 use Rattle.satellites.specs.declared.Satellite.the-variants.{HadesD, HadesIcm, MariaG, Unne1, HadesR, Unne1b, HadesSa}
-use Rattle.satellites.specs.Satellites.{firstTemperatureOf}
-use Rattle.layouts.specs.Layouts.{table, counted, among, carriedBy}
+use Rattle.layouts.specs.Layouts.{table, counted, among, carriedBy, found, entryOf, firstBehindClock}
 use Rattle.names.specs.Fields.{namesOf, sensors}
 
--- from the first temperature on the fields of type 2 are tpa to tcpu in every satellite's document, and nothing is behind them
-pub named-so : (s : Satellite) → drop (firstTemperatureOf s) (namesOf s 2) ≡ sensors
-unfolding table counted among carriedBy
+-- behind the clock, if there is one, the fields of type 2 are tpa to tcpu in every satellite's document, and nothing is behind them
+pub named-so : (s : Satellite) → drop (firstBehindClock (entryOf s 2 .clock)) (namesOf s 2) ≡ sensors
+unfolding table counted among carriedBy found
 named-so HadesD = refl
 named-so HadesIcm = refl
 named-so MariaG = refl

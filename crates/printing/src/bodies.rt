@@ -12,13 +12,14 @@ use scrambler::START;
 pub const MOST_BYTES: usize = 2048;
 
 // Bytes of checksum.
-pub const CHECKSUM: usize = 2;
+pub const CHECKSUM: usize = sealing::CHECKSUM_BYTES;
 
 // The body as it was sent.
 pub fn sent(satellite: Satellite, frame: &[u8]) {
     show(Shown::Sent, satellite, frame);
 }
 
+// The body as the fields lie in it.
 pub fn unscrambled(satellite: Satellite, frame: &[u8]) {
     show(Shown::Unscrambled, satellite, frame);
 }
@@ -28,6 +29,29 @@ pub fn sums(satellite: Satellite, frame: &[u8]) {
     show(Shown::Sums, satellite, frame);
 }
 
+enum Shown {
+    Sent,
+    Unscrambled,
+    Sums,
+}
+
+fn show(shown: Shown, satellite: Satellite, frame: &[u8]) {
+    let at = satellite.type_byte_at();
+    let end = body_end(satellite, frame);
+    if frame.len() < end {
+        return;
+    }
+    if end <= at {
+        return text(b"none");
+    }
+    let mut copy = [0u8; MOST_BYTES];
+    match shown {
+        Shown::Sent => body(&frame[at..end]),
+        Shown::Unscrambled => open_front(&frame[at..end], &mut copy),
+        Shown::Sums => open(&frame[at..], end - at, &mut copy),
+    }
+}
+
 // What stands behind the frame.
 pub fn surplus(satellite: Satellite, frame: &[u8]) {
     let end = table_end(satellite, frame);
@@ -35,12 +59,6 @@ pub fn surplus(satellite: Satellite, frame: &[u8]) {
         return bytes(&frame[end..], b" ");
     }
     text(b"none");
-}
-
-enum Shown {
-    Sent,
-    Unscrambled,
-    Sums,
 }
 
 // Where the table has a frame of this type end; of a type that is not carried, where the bytes do.
@@ -71,39 +89,36 @@ fn body_end(satellite: Satellite, frame: &[u8]) -> usize {
     end - CHECKSUM
 }
 
-fn show(shown: Shown, satellite: Satellite, frame: &[u8]) {
-    let at = satellite.type_byte_at();
-    let end = body_end(satellite, frame);
-    if frame.len() < end {
-        return;
-    }
-    if end <= at {
-        return text(b"none");
-    }
-    let mut copy = [0u8; MOST_BYTES];
-    open(shown, &frame[at..end], &frame[end..], &mut copy);
-}
-
-// Type byte and body, and what stands behind them.
-fn open(shown: Shown, part: &[u8], behind: &[u8], copy: &mut [u8]) {
-    let n = part.len();
+// Type byte and as much of the body as is there.
+fn open_front(front: &[u8], copy: &mut [u8]) {
+    let n = front.len();
     if copy.len() < n {
         return text(b"too long to show");
     }
-    bytes::copy(part, copy);
-    unscramble(shown, part, behind, &mut copy[0..n]);
+    bytes::copy(front, copy);
+    sealing::open_front(NEAR, FAR, START, &mut copy[0..n]);
+    body(&copy[0..n]);
 }
 
-fn unscramble(shown: Shown, part: &[u8], behind: &[u8], copy: &mut [u8]) {
-    if copy.len() == 0 {
-        return;
+// What lies from the type byte on, of which the checksum begins at `end`.
+fn open(sent: &[u8], end: usize, copy: &mut [u8]) {
+    if sent.len() <= end {
+        return text(b"none");
     }
-    scrambler::unscramble(NEAR, FAR, START, &mut copy[1..]);
-    match shown {
-        Shown::Sent => body(part),
-        Shown::Unscrambled => body(copy),
-        Shown::Sums => both(behind, checksum::of(copy)),
+    if sent.len() - end < CHECKSUM {
+        bytes(&sent[end..], b"");
+        return text(b" and no more");
     }
+    let n = end + CHECKSUM;
+    if copy.len() < n {
+        return text(b"too long to show");
+    }
+    bytes::copy(&sent[0..n], copy);
+    let opened = sealing::open(NEAR, FAR, START, &mut copy[0..n]);
+    checksum(opened.sent);
+    text(b" sent, ");
+    checksum(opened.computed);
+    text(b" computed");
 }
 
 // Behind the type byte.
@@ -112,18 +127,4 @@ fn body(part: &[u8]) {
         return text(b"none");
     }
     bytes(&part[1..], b" ");
-}
-
-fn both(behind: &[u8], computed: u16) {
-    if behind.len() == 0 {
-        return text(b"none");
-    }
-    if behind.len() < CHECKSUM {
-        bytes(behind, b"");
-        return text(b" and no more");
-    }
-    bytes(&behind[0..CHECKSUM], b"");
-    text(b" sent, ");
-    checksum(computed);
-    text(b" computed");
 }

@@ -3,7 +3,7 @@
 // A function here answers nothing, changes nothing and asks nothing. What it wrote no contract can say (docs/CONTRACTS.md).
 pub mod bodies;
 pub mod degrees;
-pub mod refusals;
+pub mod reasons;
 pub mod table;
 pub mod tests;
 
@@ -36,8 +36,8 @@ pub fn byte(byte: u8) {
 }
 
 // A checksum, as it is sent.
-pub(crate) fn checksum(sum: u16) {
-    byte((sum / 256) as u8);
+pub(crate) fn checksum(sum: u32) {
+    byte((sum / 256 % 256) as u8);
     byte((sum % 256) as u8);
 }
 

@@ -1,11 +1,11 @@
 // The tests on a frame (01, "What is refused, and in which order"; FORMAT 7): what each finds, and what it expects. Which of them a frame
 // passes is told by reading, not here.
 use crate::byte;
+use crate::bytes;
 use crate::half;
 use crate::number;
 use crate::text;
 use crate::types_carried;
-use frames::refusal;
 use satellites::Satellite;
 
 // Room enough for every frame.
@@ -13,10 +13,10 @@ pub const ROOM: usize = layouts::MOST_FIELDS;
 
 // What the test of that number finds in the frame, and what it expects.
 pub fn compared(test: u32, satellite: Satellite, frame: &[u8]) {
-    if test == refusal::SHORT {
+    if test == refusals::SHORT {
         return at_least(frame.len(), next(satellite.type_byte_at()));
     }
-    if test == refusal::PREAMBLE {
+    if test == refusals::PREAMBLE {
         return preamble(satellite, frame);
     }
     let at = satellite.type_byte_at();
@@ -54,7 +54,11 @@ fn preamble(satellite: Satellite, frame: &[u8]) {
         return byte(sent_at(satellite, place, found));
     }
     number(satellite.training() as u64);
-    text(b" bytes AA and BF 35, as expected");
+    text(b" bytes ");
+    byte(fronts::TRAINING);
+    text(b" and ");
+    bytes(&fronts::SYNC, b" ");
+    text(b", as expected");
 }
 
 // The first byte of training and sync that is another than is sent; the frame's end where there is none.
@@ -78,33 +82,33 @@ fn is_other(satellite: Satellite, place: usize, found: u8) -> bool {
 fn sent_at(satellite: Satellite, place: usize, found: u8) -> u8 {
     let training = satellite.training();
     if place < training {
-        return 0xAA;
+        return fronts::TRAINING;
     }
-    match place - training {
-        0 => 0xBF,
-        1 => 0x35,
-        _ => found,
+    let behind = place - training;
+    if behind < Satellite::SYNC_BYTES {
+        return fronts::SYNC[behind];
     }
+    found
 }
 
 fn behind_preamble(test: u32, satellite: Satellite, frame: &[u8], type_byte: u8) {
-    if test == refusal::ADDRESS {
+    if test == refusals::ADDRESS {
         return address(satellite, type_byte);
     }
     let ty = fronts::type_sent(satellite, frame);
-    if test == refusal::TYPE {
+    if test == refusals::TYPE {
         number(ty as u64);
         text(b", expected one of");
         return types_carried(satellite);
     }
     let layout = layouts::of(satellite, ty);
-    if test == refusal::SIZE {
+    if test == refusals::SIZE {
         return size(satellite, frame, layout.size);
     }
-    if test == refusal::LENGTH {
+    if test == refusals::LENGTH {
         return equal_to(frame.len(), layout.frame);
     }
-    if test == refusal::ROOM {
+    if test == refusals::ROOM {
         return at_least(ROOM, layout.fields);
     }
     crate::bodies::sums(satellite, frame);

@@ -5,21 +5,19 @@
 mod reader;
 
 ghost use mathlib.Core.Path.{_≡_};
-ghost use Rattle.scrambler.specs.Scrambler.{restarted};
 ghost use Rattle.satellites.specs.Satellites.{known};
 ghost use Rattle.frames.specs.Reading.{reading, roomAfter};
 use frames::Reading;
-use frames::refusal;
 use satellites::Known;
 use satellites::Satellite;
 
 // Reads a frame that this satellite sent. The values fill the room's first places; later places stay.
 pub fn read(satellite: u32, frame: &[u8], room: &mut [u32]) -> Reading
-    ensures { λ r. ⌜ r ≡ reading restarted (known satellite) (now (frame .entry)) (now (room .entry)) ⌝ }
-    ensures { λ _. ⌜ now (room .exit) ≡ roomAfter restarted (known satellite) (now (frame .entry)) (now (room .entry)) ⌝ }
+    ensures { λ r. ⌜ r ≡ reading (known satellite) (now (frame .entry)) (now (room .entry)) ⌝ }
+    ensures { λ _. ⌜ now (room .exit) ≡ roomAfter (known satellite) (now (frame .entry)) (now (room .entry)) ⌝ }
 {
     match Satellite::from_number(satellite) {
         Known::Is(named) => reader::read(named, frame, room),
-        Known::Unknown => Reading::refused(refusal::SATELLITE),
+        Known::Unknown => Reading::refused(refusals::SATELLITE),
     }
 }

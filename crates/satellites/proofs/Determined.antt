@@ -10,7 +10,6 @@ use Rattle.satellites.proofs.Satellite.address.Reads as address
 use Rattle.satellites.proofs.Satellite.training.Reads as training
 use Rattle.satellites.proofs.Satellite.has_size_byte.Reads as has-size-byte
 use Rattle.satellites.proofs.Satellite.type_byte_at.Reads as type-byte-at
-use Rattle.satellites.proofs.Satellite.first_temperature.Reads as first-temperature
 
 pub count-determined : (κs a r r′ s s′ : _) → count.Post κs a r s → count.Post κs a r′ s′ → r ≡ r′
 count-determined κs a r r′ s s′ p q = p ∙ sym q
@@ -33,9 +32,6 @@ has-size-byte-determined κs a r r′ s s′ p q = p ∙ sym q
 pub type-byte-at-determined : (κs a r r′ s s′ : _) → type-byte-at.Post κs a r s → type-byte-at.Post κs a r′ s′ → r ≡ r′
 type-byte-at-determined κs a r r′ s s′ p q = p ∙ sym q
 
-pub first-temperature-determined : (κs a r r′ s s′ : _) → first-temperature.Post κs a r s → first-temperature.Post κs a r′ s′ → r ≡ r′
-first-temperature-determined κs a r r′ s s′ p q = p ∙ sym q
-
 pub count-asks-nothing : (κs a : _) → count.Pre κs a
 count-asks-nothing κs a = tt
 
@@ -56,6 +52,3 @@ has-size-byte-asks-nothing κs a = tt
 
 pub type-byte-at-asks-nothing : (κs a : _) → type-byte-at.Pre κs a
 type-byte-at-asks-nothing κs a = tt
-
-pub first-temperature-asks-nothing : (κs a : _) → first-temperature.Pre κs a
-first-temperature-asks-nothing κs a = tt

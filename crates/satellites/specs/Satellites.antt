@@ -59,14 +59,3 @@ sizeByteOf HadesSa = true
 -- the type byte stands behind the training, the two bytes of sync, and the size byte if any
 abbrev pub typeByteAt : Satellite → ℕ
 typeByteAt s = trainingOf s + 2 + cond (sizeByteOf s) 1 0
-
--- the field of type 2 that is the first temperature (01, "The field tables"; FORMAT 6): "ten temperatures" of 0, "clock 32, ten
--- temperatures" of 1 to 6
-abbrev pub firstTemperatureOf : Satellite → ℕ
-firstTemperatureOf HadesD = 0
-firstTemperatureOf HadesIcm = 1
-firstTemperatureOf MariaG = 1
-firstTemperatureOf Unne1 = 1
-firstTemperatureOf HadesR = 1
-firstTemperatureOf Unne1b = 1
-firstTemperatureOf HadesSa = 1

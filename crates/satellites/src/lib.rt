@@ -5,7 +5,6 @@
 ghost use mathlib.Core.Path.{_≡_};
 ghost use lib.ListN.{length};
 ghost use Rattle.satellites.specs.Satellites.{seven, known, numberOf, addressOf, trainingOf, sizeByteOf, typeByteAt};
-ghost use Rattle.satellites.specs.Satellites.{firstTemperatureOf};
 
 pub enum Satellite {
     HadesD,
@@ -123,22 +122,6 @@ impl Satellite {
             clear + 1
         } else {
             clear
-        }
-    }
-
-    // The number of the first of the ten temperatures among the fields of its type 2: the clock stands ahead of them, but
-    // HADES-D sends none.
-    pub fn first_temperature(self) -> usize
-        ensures { λ r. ⌜ r ≡ firstTemperatureOf self ⌝ }
-    {
-        match self {
-            Satellite::HadesD => 0,
-            Satellite::HadesIcm => 1,
-            Satellite::MariaG => 1,
-            Satellite::Unne1 => 1,
-            Satellite::HadesR => 1,
-            Satellite::Unne1b => 1,
-            Satellite::HadesSa => 1,
         }
     }
 }

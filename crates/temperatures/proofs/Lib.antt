@@ -3,7 +3,6 @@ pub mod Contracts
 pub mod Determined
 pub mod Exact
 pub mod Extremes
-pub mod FromFrames
 pub mod Meanings
 pub mod Order
 pub mod Paper

@@ -4,7 +4,6 @@
 // A slice is a pointer and a length there. Numbers have 32 bits. What is answered are integers, in a struct of at most 16 bytes;
 // floats and further counts go into arrays that the caller lends.
 ghost use mathlib.Core.Path.{_≡_};
-ghost use Rattle.scrambler.specs.Scrambler.{restarted};
 ghost use Rattle.satellites.specs.Satellites.{known};
 ghost use Rattle.frames.specs.Reading.{reading, roomAfter};
 ghost use Rattle.frames.specs.Writing.{writing, outputAfter};
@@ -12,7 +11,6 @@ ghost use Rattle.frames.specs.Editing.{editing, frameAfter};
 ghost use Rattle.temperatures.specs.Readings.{answering, valuesIn, degreesIn};
 ghost use Rattle.temperatures.specs.Summaries.{dayOf};
 ghost use Rattle.tolimbar.specs.Answers.{readingInC, writingInC, toldInC, readInC, placed, dayInC, coldestWarmest, countIn};
-use frames::refusal;
 use temperatures::Answer;
 
 // The kinds of readings: they are added to, and never renumbered. Refused codes have none.
@@ -55,8 +53,8 @@ pub struct Day {
 // Reads a frame that this satellite sent. The values fill the room's first places; later places stay.
 #[no_mangle]
 pub extern "C" fn tolimbar_read(satellite: u32, frame: &[u8], room: &mut [u32]) -> Reading
-    ensures { λ r. ⌜ r ≡ readingInC (reading restarted (known satellite) (now (frame .entry)) (now (room .entry))) ⌝ }
-    ensures { λ _. ⌜ now (room .exit) ≡ roomAfter restarted (known satellite) (now (frame .entry)) (now (room .entry)) ⌝ }
+    ensures { λ r. ⌜ r ≡ readingInC (reading (known satellite) (now (frame .entry)) (now (room .entry))) ⌝ }
+    ensures { λ _. ⌜ now (room .exit) ≡ roomAfter (known satellite) (now (frame .entry)) (now (room .entry)) ⌝ }
 {
     let told = reading::read(satellite, frame, room);
     let count = told.count as u32;
@@ -76,7 +74,7 @@ pub extern "C" fn tolimbar_write(
     output: &mut [u8],
 ) -> Writing
     ensures { λ r. ⌜ r ≡ writingInC (writing (known satellite) ty (now (values .entry)) (now (output .entry))) ⌝ }
-    ensures { λ _. ⌜ now (output .exit) ≡ outputAfter restarted (known satellite) ty (now (values .entry)) (now (output .entry)) ⌝ }
+    ensures { λ _. ⌜ now (output .exit) ≡ outputAfter (known satellite) ty (now (values .entry)) (now (output .entry)) ⌝ }
 {
     let told = writing::write(satellite, ty, values, output);
     let answer = told.answer as u32;
@@ -89,8 +87,8 @@ pub extern "C" fn tolimbar_write(
 // Edits one field of a frame that this satellite sent: the frame with that field alone replaced takes the old one's place.
 #[no_mangle]
 pub extern "C" fn tolimbar_edit(satellite: u32, frame: &mut [u8], field: u32, value: u32) -> Writing
-    ensures { λ r. ⌜ r ≡ writingInC (editing restarted (known satellite) (now (frame .entry)) field value) ⌝ }
-    ensures { λ _. ⌜ now (frame .exit) ≡ frameAfter restarted (known satellite) (now (frame .entry)) field value ⌝ }
+    ensures { λ r. ⌜ r ≡ writingInC (editing (known satellite) (now (frame .entry)) field value) ⌝ }
+    ensures { λ _. ⌜ now (frame .exit) ≡ frameAfter (known satellite) (now (frame .entry)) field value ⌝ }
 {
     let told = editing::edit(satellite, frame, field as usize, value);
     let answer = told.answer as u32;
@@ -109,7 +107,7 @@ pub extern "C" fn tolimbar_temperature(code: u32, degrees: &mut [f32; 1]) -> Tol
     match temperatures::reading_of(code) {
         Answer::Is(reading) => tell(reading, degrees),
         Answer::Refused => Told {
-            refusal: refusal::VALUE,
+            refusal: refusals::VALUE,
             kind: NONE,
         },
     }
@@ -124,12 +122,12 @@ fn tell(reading: temperatures::Reading, degrees: &mut [f32; 1]) -> Told
         temperatures::Reading::Degrees(x) => {
             *degrees = [x];
             Told {
-                refusal: refusal::ACCEPTED,
+                refusal: refusals::ACCEPTED,
                 kind: DEGREES,
             }
         }
         temperatures::Reading::SensorError => Told {
-            refusal: refusal::ACCEPTED,
+            refusal: refusals::ACCEPTED,
             kind: SENSOR_ERROR,
         },
     }

@@ -5,6 +5,9 @@ use libc::STDOUT_FILENO;
 use satellites::Known;
 use satellites::Satellite;
 
+// The type whose fields are temperatures alone, but for a clock.
+const TEMPERATURES: u32 = 2;
+
 pub(crate) fn answer(line: &[u8]) {
     if line.len() == 0 {
         return;
@@ -124,5 +127,6 @@ fn print_satellite(satellite: Satellite) {
         hex::print_next(0, 1);
     }
     hex::print_next((satellite.type_byte_at() % 256) as u32, 1);
-    hex::print_next((satellite.first_temperature() % 256) as u32, 1);
+    let first = layouts::of(satellite, TEMPERATURES).first_behind_clock();
+    hex::print_next((first % 256) as u32, 1);
 }

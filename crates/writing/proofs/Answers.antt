@@ -8,23 +8,23 @@ use mathlib.Core.Bool.{true, false}
 use mathlib.Core.List.{List, [], _++_}
 use lib.ListN.{length, drop}
 use borrow.Author.Tests.{ne-eqb, lt-leb}
-use Rattle.scrambler.specs.Scrambler.{Register}
 use Rattle.satellites.specs.declared.Satellite.{Satellite}
 use Rattle.satellites.specs.declared.Known.the-variants.{Is, Unknown}
 use Rattle.layouts.specs.Layouts.{carries, entryOf}
 use Rattle.bodies.specs.Bodies.{fitting}
-use Rattle.frames.specs.Tests.{refusal}
+use Rattle.refusals.specs.Tests.{refusal}
+use Rattle.frames.specs.Registers.{Registers}
 use Rattle.frames.specs.Frames.{frameOf, frameLength}
-use Rattle.frames.specs.Writing.{writingTests, acceptedWriting, refusedWriting, writing, outputAfter}
-use Rattle.frames.proofs.Tests.{goes, stops}
+use Rattle.frames.specs.Writing.{writingTests, acceptedWriting, refusedWriting, writing, outputAfterBy}
+use Rattle.refusals.proofs.Tests.{goes, stops}
 use Rattle.frames.proofs.Writings.{wroteAs, Refuses, refused-with, accepted-with, passed-10, passed-11, none-fails}
 
-pub unknown-refused : (r : Register) (t : ℕ) (values output : List ℕ)
-    → (refusedWriting 1 0 ≡ writing Unknown t values output) × (output ≡ outputAfter r Unknown t values output)
-unfolding writing outputAfter writingTests refusal
+pub unknown-refused : (r : Registers) (t : ℕ) (values output : List ℕ)
+    → (refusedWriting 1 0 ≡ writing Unknown t values output) × (output ≡ outputAfterBy r Unknown t values output)
+unfolding writing outputAfterBy writingTests refusal
 unknown-refused r t values output = (refl, refl)
 
-module _ (r : Register) (s : Satellite) (t : ℕ) (values output : List ℕ) where
+module _ (r : Registers) (s : Satellite) (t : ℕ) (values output : List ℕ) where
   abbrev lowest : ℕ
   lowest = fitting (entryOf s t .widths) values
 
@@ -59,8 +59,8 @@ module _ (r : Register) (s : Satellite) (t : ℕ) (values output : List ℕ) whe
 
         -- an answer and an output that are made of the frame's length and the frame
         pub accepts : frameLength s t ≤ length output → {n m : ℕ} {front : List ℕ} → wroteAs n ≡ acceptedWriting s t → m ≡ frameLength s t
-            → front ≡ frameOf r s t values
-            → (wroteAs n ≡ writing (Is s) t values output) × (front ++ drop m output ≡ outputAfter r (Is s) t values output)
+            → front ≡ frameOf (r s) s t values
+            → (wroteAs n ≡ writing (Is s) t values output) × (front ++ drop m output ≡ outputAfterBy r (Is s) t values output)
         accepts enough answers lent made =
             let told = accepted-with r s t values output (none-fails r s t values output carried as-many all enough) in (
               answers ∙ told .0,

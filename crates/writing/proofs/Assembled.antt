@@ -6,7 +6,7 @@ use mathlib.Core.Path.{_≡_, sym, _∙_, ap, ap₂}
 use mathlib.Core.Bool.{true}
 use mathlib.Core.List.{List, [], _++_, append-nil}
 use lib.ListN.{length, take, drop, length-append, length-drop, drop-of-length-le}
-use lib.Seq.{take-all, take-at, drop-at}
+use lib.Seq.{take-all, take-at, drop-at, length-take-le}
 use Rattle.bits.specs.Bits.{packed}
 use Rattle.scrambler.specs.Scrambler.{Register}
 use Rattle.satellites.specs.declared.Satellite.{Satellite}
@@ -19,6 +19,8 @@ use Rattle.frames.specs.Frames.{ahead, typeByte, sealed, bodyOf, frameOf, frame
 use Rattle.frames.proofs.Preambles.{length-ahead}
 use Rattle.frames.proofs.Parts.{length-body}
 use Rattle.frames.proofs.Sizes.{three-least}
+use Rattle.fronts.specs.Fronts.{frontAfter}
+use Rattle.fronts.proofs.Filled.{front-filled}
 
 -- a part with its first bytes put over it, and what is lent of it behind them
 abbrev over : ℕ → List ℕ → List ℕ → List ℕ
@@ -37,11 +39,17 @@ module _ (s : Satellite) (t : ℕ) (carried : carries s t ≡ true) where
       laid-tiled (entryOf s t .widths) values body tiles (widths-allowed s t carried)
       ∙ ap (λ (n : ℕ). packed n (tiled (entryOf s t .widths) values)) bytes
 
-  -- the first part, put over a part of the frame's length
+  -- the first part, written where it is lent, and put over a part of the frame's length
   module _ (at : ℕ) (part front : List ℕ) (its : at ≡ typeByteAt s) (long : length part ≡ frameLength s t)
-      (first : front ≡ ahead s (entryOf s t .size)) where
+      (first : front ≡ frontAfter s (entryOf s t .size) (take (at - 0) part)) where
+    is-ahead : front ≡ ahead s (entryOf s t .size)
+    is-ahead =
+        let lent : length (take (at - 0) part) ≡ typeByteAt s =
+        length-take-le (at - 0) part (omega (arith, its, long)) ∙ omega (arith, its) in
+        first ∙ front-filled s (entryOf s t .size) (take (at - 0) part) lent
+
     front-length : length front ≡ at
-    front-length = ap length first ∙ length-ahead s (entryOf s t .size) ∙ sym its
+    front-length = ap length is-ahead ∙ length-ahead s (entryOf s t .size) ∙ sym its
 
     dropped : drop at (over at part front) ≡ drop (at - 0) part
     dropped = drop-at front (drop (at - 0) part) at front-length
@@ -75,7 +83,7 @@ module _ (s : Satellite) (t : ℕ) (carried : carries s t ≡ true) where
     assembled r values back address widths second =
         let behind = bodyIn (rest at part front) in
         let body = laid-body values behind (length-body (rest at part front) rest-least ∙ rest-length) in
-        ap₂ _++_ (take-at front (drop (at - 0) part) at front-length ∙ first)
+        ap₂ _++_ (take-at front (drop (at - 0) part) at front-length ∙ is-ahead)
         (ap₂ _++_
         (second
         ∙ ap₂ (λ (a : ℕ) (ws : List ℕ). sealed r (t * 16 + a) (laidFrom 0 ws values behind)) address widths

@@ -6,7 +6,7 @@ use mathlib.Core.Path.{_≡_, refl}
 use mathlib.Core.List.{List, [], _∷_}
 use lib.ListN.{length, getD, set}
 use Rattle.frames.specs.Frames.{bodyIn}
-use Rattle.parts.proofs.Lent.{lent, put, lent-body-is}
+use Rattle.sealing.proofs.Lent.{lent, put, lent-body-is}
 
 -- the body, as it is lent
 pub lent-body : (part : List ℕ) → 3 ≤ length part → lent part ≡ bodyIn part

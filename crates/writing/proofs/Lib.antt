@@ -1,4 +1,3 @@
-mod Preambles
 mod Laid
 mod Assembled
 mod Answers

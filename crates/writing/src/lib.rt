@@ -2,25 +2,22 @@
 //
 // The call names the satellite by its number, answers for all input, and keeps nothing. What it cannot accept it refuses with the
 // paper's number, and a refused call leaves the output as it was.
-mod preamble;
 mod writer;
 
 ghost use mathlib.Core.Path.{_≡_};
-ghost use Rattle.scrambler.specs.Scrambler.{restarted};
 ghost use Rattle.satellites.specs.Satellites.{known};
 ghost use Rattle.frames.specs.Writing.{writing, outputAfter};
 use frames::Writing;
-use frames::refusal;
 use satellites::Known;
 use satellites::Satellite;
 
 // Writes the frame of this satellite's type that carries these values. It fills the output's first bytes; later bytes stay.
 pub fn write(satellite: u32, ty: u32, values: &[u32], output: &mut [u8]) -> Writing
     ensures { λ r. ⌜ r ≡ writing (known satellite) ty (now (values .entry)) (now (output .entry)) ⌝ }
-    ensures { λ _. ⌜ now (output .exit) ≡ outputAfter restarted (known satellite) ty (now (values .entry)) (now (output .entry)) ⌝ }
+    ensures { λ _. ⌜ now (output .exit) ≡ outputAfter (known satellite) ty (now (values .entry)) (now (output .entry)) ⌝ }
 {
     match Satellite::from_number(satellite) {
         Known::Is(named) => writer::write(named, ty, values, output),
-        Known::Unknown => Writing::refused(refusal::SATELLITE, 0),
+        Known::Unknown => Writing::refused(refusals::SATELLITE, 0),
     }
 }

@@ -2,8 +2,8 @@
 -- Assumes nothing.
 use mathlib.Core.Path.{sym, _∙_, ap}
 use denote.Ref.{now}
-use Rattle.scrambler.specs.Scrambler.{restarted}
 use Rattle.satellites.specs.declared.Known.{Known}
+use Rattle.frames.specs.Registers.{registerOf}
 use Rattle.frames.specs.Editing.{editing, frameAfter}
 use Rattle.editing.proofs.Answers.{unknown-refused}
 use borrow.Author.Needs.{needs}
@@ -35,17 +35,17 @@ returns c =
     let asked = named .before .before in
     let a = asked .before .before .args in
     let its = sym (named .named .given .1) ∙ asked .from-number .ensures in (
-      called .edit .ensures .0 ∙ ap (λ (s : Known). editing restarted s (now (a .frame)) (a .field) (a .value)) its,
-      called .edit .ensures .1 ∙ ap (λ (s : Known). frameAfter restarted s (now (a .frame)) (a .field) (a .value)) its,
+      called .edit .ensures .0 ∙ ap (λ (s : Known). editing s (now (a .frame)) (a .field) (a .value)) its,
+      called .edit .ensures .1 ∙ ap (λ (s : Known). frameAfter s (now (a .frame)) (a .field) (a .value)) its,
     )
 
 returns-2 : tie.Need-returns-2
 returns-2 c =
     let a = c .before .before .before .before .before .args in
     let its = sym (c .before .enum-told .given .1) ∙ c .before .before .before .from-number .ensures in
-    let told = unknown-refused restarted (now (a .frame)) (a .field) (a .value) in (
-      c .refused .ensures ∙ told .0 ∙ ap (λ (s : Known). editing restarted s (now (a .frame)) (a .field) (a .value)) its,
-      told .1 ∙ ap (λ (s : Known). frameAfter restarted s (now (a .frame)) (a .field) (a .value)) its,
+    let told = unknown-refused registerOf (now (a .frame)) (a .field) (a .value) in (
+      c .refused .ensures ∙ told .0 ∙ ap (λ (s : Known). editing s (now (a .frame)) (a .field) (a .value)) its,
+      told .1 ∙ ap (λ (s : Known). frameAfter s (now (a .frame)) (a .field) (a .value)) its,
     )
 
 pub edit-spec : {M : Type 1} → statement M

@@ -12,7 +12,7 @@ use Rattle.satellites.specs.declared.Satellite.{Satellite}
 use Rattle.satellites.specs.Satellites.{addressOf, sizeByteOf, typeByteAt}
 use Rattle.layouts.specs.Layouts.{carries}
 use Rattle.frames.specs.Frames.{sizeIn, fromTypeByte, addressIn, typeOf}
-use Rattle.frames.specs.Tests.{refusal}
+use Rattle.refusals.specs.Tests.{refusal}
 use Rattle.frames.specs.Reading.{frontTests}
 use Rattle.frames.proofs.Fronts.{first-at, long, preamble, addressed, carried, sized, none-fails}
 use Rattle.fronts.proofs.Fails.{size-differs, size-agrees, no-size-byte, fails-2, fails-3, fails-4, fails-5, fails-6}

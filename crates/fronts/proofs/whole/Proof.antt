@@ -6,7 +6,7 @@ use mathlib.Core.List.{List}
 use denote.Ref.{now}
 use Rattle.satellites.specs.declared.Satellite.{Satellite}
 use Rattle.fronts.specs.declared.Front.{Front}
-use Rattle.frames.specs.Tests.{refusal}
+use Rattle.refusals.specs.Tests.{refusal}
 use Rattle.frames.specs.Reading.{frontTests, wholeTests}
 use Rattle.frames.proofs.Fronts.{whole-holds}
 use Rattle.fronts.specs.Fronts.{frontOf}

@@ -31,8 +31,8 @@ unroll-requires c κs =
 type-byte-at-requires : tie.Need-type-byte-at-requires
 type-byte-at-requires c κs = search needs
 
-add-t14 : tie.Need-add-t14
-add-t14 c =
+add-frame : tie.Need-add-frame
+add-frame c =
     let row = c .before .before .before .before in
     let a = row .before .args in
     omega (
@@ -42,12 +42,18 @@ add-t14 c =
       row-small (a .satellite) (a .ty) (row .row-of .result) (row .row-of .ensures),
     )
 
+starts-with-clock-requires : tie.Need-starts-with-clock-requires
+starts-with-clock-requires c κs = search needs
+
 returns-2 : tie.Need-returns-2
 returns-2 c =
-    let row = c .before .before .before .before in
+    let placed = c .before in
+    let all = placed .before .before in
+    let row = all .before .before in
     let a = row .before .args in
-    told-row (a .satellite) (a .ty) (row .row-of .result) (c .before .before .unroll .result) (c .type-byte-at .result)
-    (row .row-of .ensures) (c .before .before .before .if1 .left) (c .before .before .unroll .ensures) (c .type-byte-at .ensures)
+    told-row (a .satellite) (a .ty) (row .row-of .result) (all .unroll .result) (placed .type-byte-at .result)
+    (c .starts-with-clock .result) (row .row-of .ensures) (all .before .if1 .left) (all .unroll .ensures)
+    (placed .type-byte-at .ensures) (c .starts-with-clock .ensures)
 
 pub of-spec : {M : Type 1} → statement M
 of-spec =
@@ -59,5 +65,6 @@ of-spec =
     returns
     unroll-requires
     type-byte-at-requires
-    add-t14
+    add-frame
+    starts-with-clock-requires
     returns-2)

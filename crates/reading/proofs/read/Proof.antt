@@ -2,8 +2,8 @@
 -- Assumes nothing.
 use mathlib.Core.Path.{sym, _∙_, ap}
 use denote.Ref.{now}
-use Rattle.scrambler.specs.Scrambler.{restarted}
 use Rattle.satellites.specs.declared.Known.{Known}
+use Rattle.frames.specs.Registers.{registerOf}
 use Rattle.frames.specs.Reading.{reading, roomAfter}
 use Rattle.reading.proofs.Answers.{unknown-refused}
 use borrow.Author.Needs.{needs}
@@ -35,17 +35,17 @@ returns c =
     let asked = named .before .before in
     let a = asked .before .before .before .args in
     let its = sym (named .named .given .1) ∙ asked .from-number .ensures in (
-      called .read .ensures .0 ∙ ap (λ (k : Known). reading restarted k (now (a .frame)) (now (a .room))) its,
-      called .read .ensures .1 ∙ ap (λ (k : Known). roomAfter restarted k (now (a .frame)) (now (a .room))) its,
+      called .read .ensures .0 ∙ ap (λ (k : Known). reading k (now (a .frame)) (now (a .room))) its,
+      called .read .ensures .1 ∙ ap (λ (k : Known). roomAfter k (now (a .frame)) (now (a .room))) its,
     )
 
 returns-2 : tie.Need-returns-2
 returns-2 c =
     let a = c .before .before .before .before .before .before .args in
     let its = sym (c .before .enum-told .given .1) ∙ c .before .before .before .from-number .ensures in
-    let told = unknown-refused restarted (now (a .frame)) (now (a .room)) in (
-      c .refused .ensures ∙ told .0 ∙ ap (λ (k : Known). reading restarted k (now (a .frame)) (now (a .room))) its,
-      told .1 ∙ ap (λ (k : Known). roomAfter restarted k (now (a .frame)) (now (a .room))) its,
+    let told = unknown-refused registerOf (now (a .frame)) (now (a .room)) in (
+      c .refused .ensures ∙ told .0 ∙ ap (λ (k : Known). reading k (now (a .frame)) (now (a .room))) its,
+      told .1 ∙ ap (λ (k : Known). roomAfter k (now (a .frame)) (now (a .room))) its,
     )
 
 pub read-spec : {M : Type 1} → statement M

@@ -2,8 +2,8 @@
 -- Assumes nothing.
 use mathlib.Core.Path.{sym, _∙_, ap}
 use denote.Ref.{now}
-use Rattle.scrambler.specs.Scrambler.{restarted}
 use Rattle.satellites.specs.declared.Known.{Known}
+use Rattle.frames.specs.Registers.{registerOf}
 use Rattle.frames.specs.Writing.{writing, outputAfter}
 use Rattle.writing.proofs.Answers.{unknown-refused}
 use borrow.Author.Needs.{needs}
@@ -36,16 +36,16 @@ returns c =
     let a = asked .before .before .before .args in
     let its = sym (named .named .given .1) ∙ asked .from-number .ensures in (
       called .write .ensures .0 ∙ ap (λ (k : Known). writing k (a .ty) (now (a .values)) (now (a .output))) its,
-      called .write .ensures .1 ∙ ap (λ (k : Known). outputAfter restarted k (a .ty) (now (a .values)) (now (a .output))) its,
+      called .write .ensures .1 ∙ ap (λ (k : Known). outputAfter k (a .ty) (now (a .values)) (now (a .output))) its,
     )
 
 returns-2 : tie.Need-returns-2
 returns-2 c =
     let a = c .before .before .before .before .before .before .args in
     let its = sym (c .before .enum-told .given .1) ∙ c .before .before .before .from-number .ensures in
-    let told = unknown-refused restarted (a .ty) (now (a .values)) (now (a .output)) in (
+    let told = unknown-refused registerOf (a .ty) (now (a .values)) (now (a .output)) in (
       c .refused .ensures ∙ told .0 ∙ ap (λ (k : Known). writing k (a .ty) (now (a .values)) (now (a .output))) its,
-      told .1 ∙ ap (λ (k : Known). outputAfter restarted k (a .ty) (now (a .values)) (now (a .output))) its,
+      told .1 ∙ ap (λ (k : Known). outputAfter k (a .ty) (now (a .values)) (now (a .output))) its,
     )
 
 pub write-spec : {M : Type 1} → statement M

@@ -1,38 +1,43 @@
 -- `editing::editor::change_by` meets its contract.
 -- Assumes nothing.
 use Prim.Native.Nat.{ℕ, _-_}
-use mathlib.Core.Path.{_≡_, refl, sym, _∙_, ap₂}
+use mathlib.Core.Path.{_≡_, refl, sym, _∙_, ap, ap₂}
 use mathlib.Core.Bool.{true}
 use mathlib.Core.List.{List}
 use lib.ListN.{length, take, drop}
-use borrow.Author.Tests.{not-true, not-false}
+use lib.Dec.{eqb}
+use borrow.Author.Tests.{eq-eqb, ne-eqb}
 use denote.Ref.{now}
 use Rattle.bits.specs.Bits.{replacedAnswer}
 use Rattle.bits.proofs.Fields.{length-replaced-answer}
-use Rattle.scrambler.specs.Scrambler.{restarted}
+use Rattle.scrambler.specs.Scrambler.{Register, from}
 use Rattle.layouts.specs.declared.Layout.{Layout}
 use Rattle.layouts.specs.Layouts.{startAt, widthAt}
 use Rattle.frames.specs.Frames.{clearBody}
 use Rattle.frames.specs.Reading.{checksumRight}
-use Rattle.parts.specs.Parts.{opened}
-use Rattle.parts.proofs.Laws.{opens-lent}
+use Rattle.sealing.specs.declared.Sums.{Sums}
+use Rattle.sealing.specs.Sealing.{openedPart, sumsOf}
+use Rattle.sealing.proofs.Laws.{copied, sums-right}
 use Rattle.editing.proofs.Opened.{opened-copied, opened-sealed}
 use Rattle.editing.proofs.Changes.{stays-9, stays-refused, changes}
 use borrow.Author.Needs.{needs}
 use Rattle.editing.proofs.editor.change_by.Statement.{statement}
 use Rattle.editing.proofs.editor.change_by.Tie as tie
 
-sub-unscrambled : tie.Need-sub-unscrambled
-sub-unscrambled c = search needs
+copy-requires : tie.Need-copy-requires
+copy-requires c κs = search needs
 
-part-unscrambled-start : tie.Need-part-unscrambled-start
-part-unscrambled-start c = search needs
+sub-open : tie.Need-sub-open
+sub-open c = search needs
 
-part-unscrambled-end : tie.Need-part-unscrambled-end
-part-unscrambled-end c = search needs
+part-open-start : tie.Need-part-open-start
+part-open-start c = search needs
 
-unscrambled-requires : tie.Need-unscrambled-requires
-unscrambled-requires c κs = search needs
+part-open-end : tie.Need-part-open-end
+part-open-end c = search needs
+
+open-requires : tie.Need-open-requires
+open-requires c κs = search needs
 
 same-length : tie.Need-same-length
 same-length c = search needs
@@ -41,9 +46,15 @@ same-length-2 : tie.Need-same-length-2
 same-length-2 c = search needs
 
 -- what the call is given, and test 9
-module _ (c : tie.After-unscrambled) where
+module _ (c : tie.After-open) where
+  abbrev there : tie.After-copy
+  there = c .before .before .before .before
+
   abbrev start : tie.Start
-  start = c .before .before .before .before .before
+  start = there .before .before .before .before .before
+
+  abbrev register : Register
+  register = from (start .args .near) (start .args .far) (start .args .start)
 
   abbrev layout : Layout
   layout = start .args .layout
@@ -58,19 +69,26 @@ module _ (c : tie.After-unscrambled) where
   v = start .args .value
 
   abbrev copy : List ℕ
-  copy = now (start .args .copy)
+  copy = there .copy .last .1 .0
 
-  told : checksumRight restarted part ≡ c .unscrambled .result
-  told = sym (c .unscrambled .ensures .0 ∙ opens-lent restarted part copy (start .pre .0) (start .pre .1) .0)
+  is-copy : take (length part - 0) copy ≡ part
+  is-copy = ap (take (length part - 0)) (there .copy .ensures .1) ∙ copied part (now (start .args .copy)) (start .pre .1)
+
+  told : checksumRight register part ≡ eqb (c .open .result .sent) (c .open .result .computed)
+  told =
+      sym
+      (ap (λ (sums : Sums). eqb (sums .sent) (sums .computed)) (c .open .ensures .0 ∙ ap (sumsOf register) is-copy)
+      ∙ sums-right register part (start .pre .0))
 
   -- the copy in the clear
-  in-clear : c .unscrambled .last .1 .0 ≡ opened restarted part
-  in-clear = c .unscrambled .ensures .1 ∙ opens-lent restarted part copy (start .pre .0) (start .pre .1) .1
+  in-clear : c .open .last .1 .1 .1 .0 ≡ openedPart register part
+  in-clear = c .open .ensures .1 ∙ ap (openedPart register) is-copy
 
 returns : tie.Need-returns
 returns c =
-    let at = c .before .before .before in
-    stays-9 restarted (layout at) (part at) (k at) (v at) (told at ∙ not-true (at .unscrambled .result) (c .if1 .taken))
+    let at = c .before .before .before .before in
+    let wrong = told at ∙ ne-eqb (at .open .result .sent) (at .open .result .computed) (c .if1 .taken) in
+    stays-9 (register at) (layout at) (part at) (k at) (v at) wrong
 
 test-field-requires : tie.Need-test-field-requires
 test-field-requires c κs = search needs
@@ -85,16 +103,18 @@ same-length-4 c = search needs
 abbrev by-checksum : tie.After-test-field → tie.Else1
 by-checksum c = c .before
 
-right : (c : tie.Else1) → let at = c .before .before .before in checksumRight restarted (part at) ≡ true
-right c = let at = c .before .before .before in told at ∙ not-false (at .unscrambled .result) (c .if1 .left)
+right : (c : tie.Else1) → let at = c .before .before .before .before in checksumRight (register at) (part at) ≡ true
+right c =
+    let at = c .before .before .before .before in
+    told at ∙ eq-eqb (at .open .result .sent) (at .open .result .computed) (c .if1 .left)
 
 returns-2 : tie.Need-returns-2
 returns-2 c =
     let tested = c .before in
     let past = by-checksum tested in
-    let at = past .before .before .before in
+    let at = past .before .before .before .before in
     let number = tested .test-field .result in
-    stays-refused restarted (layout at) (part at) (k at) (v at) (right past) number (sym (tested .test-field .ensures)) (c .if2 .taken)
+    stays-refused (register at) (layout at) (part at) (k at) (v at) (right past) number (sym (tested .test-field .ensures)) (c .if2 .taken)
 
 start-requires : tie.Need-start-requires
 start-requires c κs = search needs
@@ -114,8 +134,8 @@ part-copy-start c = search needs
 part-copy-end : tie.Need-part-copy-end
 part-copy-end c = search needs
 
-copy-requires : tie.Need-copy-requires
-copy-requires c κs = search needs
+copy-requires-2 : tie.Need-copy-requires-2
+copy-requires-2 c κs = search needs
 
 sub-replace-field : tie.Need-sub-replace-field
 sub-replace-field c = search needs
@@ -140,7 +160,7 @@ same-length-6 c = search needs
 
 -- the part in the clear, with its field replaced
 module _ (c : tie.After-replace-field) where
-  abbrev whole : tie.After-copy3
+  abbrev whole : tie.After-copy5
   whole = c .before .before .before .before
 
   abbrev wide : tie.After-width
@@ -152,31 +172,31 @@ module _ (c : tie.After-replace-field) where
   abbrev past : tie.Else1
   past = by-checksum (fit .before)
 
-  abbrev at : tie.After-unscrambled
-  at = past .before .before .before
+  abbrev at : tie.After-open
+  at = past .before .before .before .before
 
   -- it was copied over the part
-  is-open : whole .copy3 .last .1 .0 ≡ opened restarted (part at)
+  is-open : whole .copy5 .last .1 .0 ≡ openedPart (register at) (part at)
   is-open =
-      whole .copy3 .ensures .1
-      ∙ opened-copied restarted (part at) (start at .pre .0) (at .unscrambled .last .1 .0)
+      whole .copy5 .ensures .1
+      ∙ opened-copied (register at) (part at) (start at .pre .0) (at .open .last .1 .1 .1 .0)
       (drop (length (part at) - 0) (copy at)) (part at) (in-clear at) refl
 
   abbrev field-replaced : List ℕ → List ℕ
   field-replaced = replacedAnswer (startAt (layout at .widths) (k at)) (widthAt (layout at .widths) (k at)) (v at)
 
   abbrev lends : List ℕ
-  lends = take (length (part at) - 2 - 1) (drop 1 (whole .copy3 .last .1 .0))
+  lends = take (length (part at) - 2 - 1) (drop 1 (whole .copy5 .last .1 .0))
 
   is-replaced : c .replace-field .last .0 ≡ field-replaced lends
   is-replaced =
       c .replace-field .ensures
       ∙ ap₂ (λ (from w : ℕ). replacedAnswer from w (v at) lends) (wide .before .start .ensures) (wide .width .ensures)
 
-  keeps : length (field-replaced (clearBody restarted (part at))) ≡ length (clearBody restarted (part at))
+  keeps : length (field-replaced (clearBody (register at) (part at))) ≡ length (clearBody (register at) (part at))
   keeps =
       length-replaced-answer (startAt (layout at .widths) (k at)) (widthAt (layout at .widths) (k at)) (v at)
-      (clearBody restarted (part at))
+      (clearBody (register at) (part at))
 
 returns-3 : tie.Need-returns-3
 returns-3 c =
@@ -184,19 +204,20 @@ returns-3 c =
     let new = done .before .before .before .before in
     let from = at new in
     let none = sym (fit new .before .test-field .ensures) ∙ fit new .if2 .left in
-    changes restarted (layout from) (part from) (k from) (v from) (right (past new)) none
+    changes (register from) (layout from) (part from) (k from) (v from) (right (past new)) none
     (done .seal .ensures
-    ∙ opened-sealed restarted (part from) (start from .pre .0) (whole new .copy3 .last .1 .0) (new .replace-field .last .0)
+    ∙ opened-sealed (register from) (part from) (start from .pre .0) (whole new .copy5 .last .1 .0) (new .replace-field .last .0)
     (field-replaced new) (is-open new) (is-replaced new) (keeps new))
 
 pub change-by-spec : {M : Type 1} → statement M
 change-by-spec =
     tie.close
     (tie.spec
-    sub-unscrambled
-    part-unscrambled-start
-    part-unscrambled-end
-    unscrambled-requires
+    copy-requires
+    sub-open
+    part-open-start
+    part-open-end
+    open-requires
     same-length
     same-length-2
     returns
@@ -210,7 +231,7 @@ change-by-spec =
     sub-copy
     part-copy-start
     part-copy-end
-    copy-requires
+    copy-requires-2
     sub-replace-field
     part-replace-field-start
     part-replace-field-end

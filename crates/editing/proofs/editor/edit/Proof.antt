@@ -5,13 +5,15 @@ use mathlib.Core.Path.{_≡_, sym, _∙_, ap, ap₂}
 use mathlib.Core.List.{List, _++_}
 use lib.ListN.{length, take, drop}
 use denote.Ref.{now}
-use Rattle.scrambler.specs.Scrambler.{restarted}
+use Rattle.scrambler.specs.Scrambler.{Register, from, NEAR, FAR, START}
 use Rattle.satellites.specs.declared.Satellite.{Satellite}
 use Rattle.satellites.specs.Satellites.{typeByteAt}
 use Rattle.layouts.specs.declared.Layout.{Layout}
 use Rattle.layouts.specs.Layouts.{layoutOf}
 use Rattle.fronts.specs.declared.Front.{Front}
-use Rattle.frames.specs.Tests.{refusal}
+use Rattle.refusals.specs.Tests.{refusal}
+use Rattle.frames.specs.Registers.{registerOf}
+use Rattle.frames.proofs.Registers.{handed}
 use Rattle.frames.specs.Frames.{fromTypeByte, typeOf}
 use Rattle.frames.specs.Reading.{wholeTests}
 use Rattle.frames.proofs.Sizes.{told-length}
@@ -62,7 +64,7 @@ returns c =
     let at = c .before .before in
     let number = at .whole .result .refusal in
     let its = sym (ap (λ (f : Front). f .refusal) (at .whole .ensures)) in
-    let told = whole-refuses restarted (s at) (frame at) (k at) (v at) number its (c .before .if1 .taken) in
+    let told = whole-refuses registerOf (s at) (frame at) (k at) (v at) number its (c .before .if1 .taken) in
     (c .refused .ensures ∙ told .0, told .1)
 
 -- no test of the whole frame fails
@@ -114,14 +116,17 @@ by-place c = c .before .before
 
 leaves : (c : tie.After-change)
     → let at = by-whole (by-place c) .before in
-    Leaves restarted (layout at) (part at) (k at) (v at) (c .change .result) (c .change .last .1 .1 .1 .0)
+    Leaves (registerOf (s at)) (layout at) (part at) (k at) (v at) (c .change .result) (c .change .last .1 .1 .1 .1 .1 .1 .0)
 leaves c =
     let at = by-whole (by-place c) .before in
-    let its = ap (λ (f : Front). f .layout) (at .whole .ensures) in (
+    let its = ap (λ (f : Front). f .layout) (at .whole .ensures) in
+    let part-is = lent (by-place c) in (
       c .change .ensures .0
-          ∙ ap₂ (λ (l : Layout) (p : List ℕ). refusal (partTests restarted l p (k at) (v at))) its (lent (by-place c)),
+          ∙ ap₂ (λ (l : Layout) (p : List ℕ). refusal (partTests (from NEAR FAR START) l p (k at) (v at))) its part-is
+          ∙ ap (λ (r : Register). refusal (partTests r (layout at) (part at) (k at) (v at))) (handed (s at)),
       c .change .ensures .1
-          ∙ ap₂ (λ (l : Layout) (p : List ℕ). partAfter restarted l p (k at) (v at)) its (lent (by-place c)),
+          ∙ ap₂ (λ (l : Layout) (p : List ℕ). partAfter (from NEAR FAR START) l p (k at) (v at)) its part-is
+          ∙ ap (λ (r : Register). partAfter r (layout at) (part at) (k at) (v at)) (handed (s at)),
     )
 
 -- the part is put back behind the type byte's place, as it was computed
@@ -145,8 +150,8 @@ returns-2 c =
     let done = c .before .before .before .before in
     let past = by-whole (by-place done) in
     let at = past .before in
-    let left = done .change .last .1 .1 .1 .0 in
-    let told = part-refuses restarted (s at) (frame at) (k at) (v at) (passes past) (done .change .result) left (leaves done)
+    let left = done .change .last .1 .1 .1 .1 .1 .1 .0 in
+    let told = part-refuses registerOf (s at) (frame at) (k at) (v at) (passes past) (done .change .result) left (leaves done)
     (c .before .if2 .taken) in
     (c .refused2 .ensures ∙ told .0, put done left ∙ told .1)
 
@@ -158,10 +163,10 @@ returns-3 c =
     let done = c .before .before .before in
     let past = by-whole (by-place done) in
     let at = past .before in
-    let left = done .change .last .1 .1 .1 .0 in
+    let left = done .change .last .1 .1 .1 .1 .1 .1 .0 in
     let its = ap (λ (f : Front). f .layout .frame) (at .whole .ensures)
     ∙ told-length (s at) (typeOf (s at) (frame at)) (is-carried (s at) (frame at) (passes past)) in
-    let told = part-accepts restarted (s at) (frame at) (k at) (v at) (passes past) (done .change .result) left (leaves done)
+    let told = part-accepts registerOf (s at) (frame at) (k at) (v at) (passes past) (done .change .result) left (leaves done)
     (c .if2 .left) in
     (ap wroteAs its ∙ told .0, put done left ∙ told .1)
 

@@ -6,7 +6,7 @@ use native.Mathlib.Omega.{arith}
 use denote.Ref.{now}
 use Rattle.satellites.specs.Satellites.{trainingOf}
 use Rattle.satellites.proofs.Laws.{training-most}
-use Rattle.frames.specs.Tests.{same}
+use Rattle.refusals.specs.Tests.{same}
 use Rattle.frames.specs.Frames.{training}
 use Rattle.fronts.proofs.Compared.{training-compared, sync-compared}
 use borrow.Author.Needs.{needs}

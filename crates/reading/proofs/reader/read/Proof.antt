@@ -6,16 +6,15 @@ use mathlib.Core.Path.{_≡_, sym, _∙_, ap, ap₂}
 use mathlib.Core.Bool.{Bool}
 use mathlib.Core.List.{List}
 use lib.ListN.{length, take, drop}
-use lib.Dec.{eqb}
 use denote.Ref.{now}
-use Rattle.checksum.specs.Checksum.{checksum}
 use Rattle.layouts.specs.Layouts.{entryOf, layoutOf}
-use Rattle.scrambler.specs.Scrambler.{restarted}
 use Rattle.satellites.specs.declared.Satellite.{Satellite}
 use Rattle.layouts.specs.declared.Layout.{Layout}
 use Rattle.fronts.specs.declared.Front.{Front}
-use Rattle.frames.specs.Tests.{refusal}
-use Rattle.frames.specs.Frames.{fromTypeByte, checksumIn, clearBody, clear, typeOf}
+use Rattle.refusals.specs.Tests.{refusal}
+use Rattle.frames.specs.Registers.{registerOf}
+use Rattle.frames.proofs.Registers.{handed}
+use Rattle.frames.specs.Frames.{fromTypeByte, clearBody, typeOf}
 use Rattle.frames.specs.Reading.{checksumRight, wholeTests}
 use Rattle.frames.proofs.Readings.{readAs}
 use Rattle.fronts.proofs.Lent.{lies-inside, lent-part, lent-least, lent-most}
@@ -63,7 +62,7 @@ returns c =
     let at = c .before .before in
     let number = at .whole .result .refusal in
     let its = sym (ap (λ (f : Front). f .refusal) (at .whole .ensures)) in
-    let told = whole-refuses restarted (s at) (frame at) (room at) number its (c .before .if1 .taken) in
+    let told = whole-refuses registerOf (s at) (frame at) (room at) number its (c .before .if1 .taken) in
     (c .refused .ensures ∙ told .0, told .1)
 
 -- no test of the whole frame fails
@@ -78,7 +77,7 @@ returns-2 c =
     let whole = c .before .before .before .before in
     let at = whole .before in
     let small : length (room at) < length (entryOf (s at) (type at) .widths) = omega (arith, counts at) in
-    let told = refuses-8 restarted (s at) (frame at) (room at) (passes whole) small in
+    let told = refuses-8 registerOf (s at) (frame at) (room at) (passes whole) small in
     (c .refused2 .ensures ∙ told .0, told .1)
 
 passed : (c : tie.Else2) → refusal (wholeTests (s (by-whole c)) (frame (by-whole c))) ≡ 0
@@ -130,22 +129,20 @@ same-length c = search needs
 -- test 9
 checked : (c : tie.After-tell)
     → let at = by-whole (by-room c) in
-    eqb (checksumIn (part at)) (checksum (clear restarted (part at))) ≡ c .tell .result
-checked c =
-    sym
-    (c .tell .ensures .0
-    ∙ ap (λ (l : List ℕ). checksumRight restarted l) (sent (c .before .before .before)))
+    checksumRight (registerOf (s at)) (part at) ≡ c .tell .result
+checked c = sym (c .tell .ensures .0 ∙ ap₂ checksumRight (handed (s (by-whole (by-room c)))) (sent (c .before .before .before)))
 
 -- the room behind it
 left : (c : tie.After-tell) {right : Bool} → c .tell .result ≡ right
     → let at = by-whole (by-room c) in
-    c .tell .last .1 .1 .0 ≡ toldTo right (layoutOf (s at) (type at)) (clearBody restarted (part at)) (room at)
+    c .tell .last .1 .1 .1 .1 .1 .0 ≡ toldTo right (layoutOf (s at) (type at)) (clearBody (registerOf (s at)) (part at)) (room at)
 left c {right} e =
     let at = by-whole (by-room c) in
     c .tell .ensures .1
-    ∙ ap₂ (λ (l : Layout) (sent : List ℕ). toldTo (c .tell .result) l (clearBody restarted sent) (room at))
-    (ap (λ (f : Front). f .layout) (at .whole .ensures)) (sent (c .before .before .before))
-    ∙ ap (λ (b : Bool). toldTo b (layoutOf (s at) (type at)) (clearBody restarted (part at)) (room at)) e
+    ∙ ap₂ (λ (l : Layout) (body : List ℕ). toldTo (c .tell .result) l body (room at))
+    (ap (λ (f : Front). f .layout) (at .whole .ensures))
+    (ap₂ clearBody (handed (s at)) (sent (c .before .before .before)))
+    ∙ ap (λ (b : Bool). toldTo b (layoutOf (s at) (type at)) (clearBody (registerOf (s at)) (part at)) (room at)) e
 
 returns-3 : tie.Need-returns-3
 returns-3 c =
@@ -153,7 +150,7 @@ returns-3 c =
     let past = by-room end in
     let at = by-whole past in
     let right = checked end ∙ c .if3 .taken in
-    let told = accepts restarted (s at) (frame at) (room at) (passed past) (enough past) right in (
+    let told = accepts registerOf (s at) (frame at) (room at) (passed past) (enough past) right in (
       ap₂ readAs (ap (λ (f : Front). f .ty) (at .whole .ensures)) (counts at) ∙ told .0,
       left end (c .if3 .taken) ∙ told .1,
     )
@@ -170,7 +167,7 @@ returns-4 c =
     let past = by-room end in
     let at = by-whole past in
     let wrong = checked end ∙ c .before .if3 .left in
-    let told = refuses-9 restarted (s at) (frame at) (room at) (passed past) (enough past) wrong in
+    let told = refuses-9 registerOf (s at) (frame at) (room at) (passed past) (enough past) wrong in
     (c .refused3 .ensures ∙ told .0, left end (c .before .if3 .left) ∙ told .1)
 
 pub read-spec : {M : Type 1} → statement M

@@ -1,16 +1,18 @@
 -- `reading::reader::tell_from` meets its contract.
 -- Assumes nothing.
-use mathlib.Core.Path.{_≡_, refl, sym, _∙_, ap}
 use Prim.Native.Nat.{ℕ, _-_}
-use mathlib.Core.List.{List}
-use lib.ListN.{length, drop}
-use Rattle.scrambler.specs.Scrambler.{restarted}
+use mathlib.Core.Path.{_≡_, refl, sym, _∙_, ap}
+use mathlib.Core.List.{List, _++_}
+use lib.Dec.{eqb}
+use lib.ListN.{length, drop, take}
+use borrow.Author.Tests.{eq-eqb, ne-eqb}
+use denote.Ref.{now}
+use Rattle.scrambler.specs.Scrambler.{Register, from}
 use Rattle.bodies.specs.Bodies.{filled, valuesFrom, widthsIn}
 use Rattle.frames.specs.Reading.{checksumRight}
-use Rattle.parts.specs.Parts.{opened}
-use Rattle.parts.proofs.Laws.{opens-lent}
-use Rattle.parts.proofs.Lent.{told-body}
-use denote.Ref.{now}
+use Rattle.sealing.specs.declared.Sums.{Sums}
+use Rattle.sealing.specs.Sealing.{openedPart, sumsOf}
+use Rattle.sealing.proofs.Laws.{copied, sums-right, body-told}
 use borrow.Author.Needs.{needs}
 use Rattle.reading.proofs.reader.tell_from.Statement.{statement}
 use Rattle.reading.proofs.reader.tell_from.Tie as tie
@@ -18,17 +20,20 @@ use Rattle.reading.proofs.reader.tell_from.Tie as tie
 sub-end : tie.Need-sub-end
 sub-end c = search needs
 
-sub-unscrambled : tie.Need-sub-unscrambled
-sub-unscrambled c = search needs
+copy-requires : tie.Need-copy-requires
+copy-requires c κs = search needs
 
-part-unscrambled-start : tie.Need-part-unscrambled-start
-part-unscrambled-start c = search needs
+sub-open : tie.Need-sub-open
+sub-open c = search needs
 
-part-unscrambled-end : tie.Need-part-unscrambled-end
-part-unscrambled-end c = search needs
+part-open-start : tie.Need-part-open-start
+part-open-start c = search needs
 
-unscrambled-requires : tie.Need-unscrambled-requires
-unscrambled-requires c κs = search needs
+part-open-end : tie.Need-part-open-end
+part-open-end c = search needs
+
+open-requires : tie.Need-open-requires
+open-requires c κs = search needs
 
 sub-read : tie.Need-sub-read
 sub-read c = search needs
@@ -49,50 +54,66 @@ same-length-2 : tie.Need-same-length-2
 same-length-2 c = search needs
 
 -- what was opened
-module _ (c : tie.After-unscrambled) where
+module _ (c : tie.After-open) where
+  abbrev copied-there : tie.After-copy
+  copied-there = c .before .before .before .before
+
   abbrev start : tie.Start
-  start = c .before .before .before .before .before
+  start = copied-there .before .before .before .before .before
+
+  abbrev register : Register
+  register = from (start .args .near) (start .args .far) (start .args .start)
 
   abbrev sent : List ℕ
   sent = now (start .args .sent)
 
   abbrev copy : List ℕ
-  copy = now (start .args .copy)
+  copy = copied-there .copy .last .1 .0
 
-  right : c .unscrambled .result ≡ checksumRight restarted sent
-  right = c .unscrambled .ensures .0 ∙ opens-lent restarted sent copy (start .pre .0) (start .pre .1) .0
+  is-copy : take (length sent - 0) copy ≡ sent
+  is-copy =
+      ap (take (length sent - 0)) (copied-there .copy .ensures .1) ∙ copied sent (now (start .args .copy)) (start .pre .1)
 
-  is-open : c .unscrambled .last .1 .0 ≡ opened restarted sent
-  is-open = c .unscrambled .ensures .1 ∙ opens-lent restarted sent copy (start .pre .0) (start .pre .1) .1
+  right : eqb (c .open .result .sent) (c .open .result .computed) ≡ checksumRight register sent
+  right =
+      ap (λ (sums : Sums). eqb (sums .sent) (sums .computed)) (c .open .ensures .0 ∙ ap (sumsOf register) is-copy)
+      ∙ sums-right register sent (start .pre .0)
+
+  is-open : c .open .last .1 .1 .1 .0 ≡ openedPart register sent
+  is-open = c .open .ensures .1 ∙ ap (openedPart register) is-copy
 
 returns : tie.Need-returns
 returns c =
     let read = c .before .before in
     let taken = read .before .before .before .before in
-    let told = taken .before .before .before in
-    let a = start told .args in (
-      sym (taken .if1 .taken) ∙ right told,
+    let told = taken .before .before .before .before in
+    let a = start told .args in
+    let rest = drop (length (sent told) - 0) (copy told) in (
+      sym (eq-eqb (told .open .result .sent) (told .open .result .computed) (taken .if1 .taken)) ∙ right told,
       read .read .ensures
           ∙ ap (λ (l : List ℕ). filled (valuesFrom 0 (widthsIn (a .layout)) l) (now (a .room)))
-          (told-body restarted (sent told) (told .unscrambled .last .1 .0) (drop (length (sent told) - 0) (copy told)) (start told .pre .0)
-          (is-open told)),
+          (ap (λ (l : List ℕ). take (length (sent told) - 2 - 1) (drop 1 (l ++ rest))) (is-open told)
+          ∙ body-told (register told) (sent told) rest (start told .pre .0)),
     )
 
 same-length-3 : tie.Need-same-length-3
 same-length-3 c = search needs
 
 returns-2 : tie.Need-returns-2
-returns-2 c = (sym (c .if1 .left) ∙ right (c .before .before .before), refl)
+returns-2 c =
+    let told = c .before .before .before .before in
+    (sym (ne-eqb (told .open .result .sent) (told .open .result .computed) (c .if1 .left)) ∙ right told, refl)
 
 pub tell-from-spec : {M : Type 1} → statement M
 tell-from-spec =
     tie.close
     (tie.spec
     sub-end
-    sub-unscrambled
-    part-unscrambled-start
-    part-unscrambled-end
-    unscrambled-requires
+    copy-requires
+    sub-open
+    part-open-start
+    part-open-end
+    open-requires
     sub-read
     part-read-start
     part-read-end

@@ -2,12 +2,16 @@
 -- Assumes nothing.
 use native.Mathlib.Omega.{arith}
 use mathlib.Core.Path.{_≡_, _∙_, ap}
-use Prim.Native.Nat.{ℕ, _<_}
+use Prim.Native.Nat.{ℕ, _-_, _<_}
+use mathlib.Core.List.{List}
+use lib.ListN.{take}
 use denote.Ref.{now}
-use Rattle.scrambler.specs.Scrambler.{restarted}
+use Rattle.scrambler.specs.Scrambler.{Register, from, NEAR, FAR, START}
 use Rattle.bodies.specs.Bodies.{widthsIn}
 use Rattle.bodies.proofs.Laws.{widths-in}
-use Rattle.frames.specs.Frames.{ahead}
+use Rattle.fronts.specs.Fronts.{frontAfter}
+use Rattle.frames.specs.Frames.{frameOf}
+use Rattle.frames.proofs.Registers.{handed}
 use Rattle.writing.proofs.Assembled.{rest-least, assembled}
 use Rattle.satellites.specs.declared.Satellite.{Satellite}
 use Rattle.satellites.proofs.Laws.{address-most}
@@ -46,8 +50,11 @@ module _ (c : tie.After-write) where
   abbrev at : tie.After-type-byte-at
   at = c .before .before .before
 
-  is-ahead : c .write .last .1 .1 .0 ≡ ahead (s at) (entryOf (s at) (ty at) .size)
-  is-ahead = c .write .ensures ∙ ap (ahead (s at)) (its-size at)
+  abbrev lent : List ℕ
+  lent = take (at .type-byte-at .result - 0) (now (start at .args .part))
+
+  written : c .write .last .1 .1 .0 ≡ frontAfter (s at) (entryOf (s at) (ty at) .size) lent
+  written = c .write .ensures ∙ ap (λ (n : ℕ). frontAfter (s at) n lent) (its-size at)
 
 type-byte-at-requires : tie.Need-type-byte-at-requires
 type-byte-at-requires c κs = search needs
@@ -97,7 +104,7 @@ send-requires c κs =
     let front = c .before .before .before .before in
     let called = at front in
     rest-least (s called) (ty called) (start called .pre .0) (called .type-byte-at .result) (now (start called .args .part))
-    (front .write .last .1 .1 .0) (called .type-byte-at .ensures) (start called .pre .1 .1) (is-ahead front)
+    (front .write .last .1 .1 .0) (called .type-byte-at .ensures) (start called .pre .1 .1) (written front)
 
 same-length : tie.Need-same-length
 same-length c = search needs
@@ -108,9 +115,10 @@ returns c =
     let front = back .before .before .before .before .before in
     let called = at front in
     assembled (s called) (ty called) (start called .pre .0) (called .type-byte-at .result) (now (start called .args .part))
-    (front .write .last .1 .1 .0) (called .type-byte-at .ensures) (start called .pre .1 .1) (is-ahead front)
-    restarted (now (start called .args .values)) (back .send .last .1 .1 .1 .0)
+    (front .write .last .1 .1 .0) (called .type-byte-at .ensures) (start called .pre .1 .1) (written front)
+    (from NEAR FAR START) (now (start called .args .values)) (back .send .last .1 .1 .1 .1 .1 .1 .0)
     (back .before .before .address .ensures) (its-widths called) (back .send .ensures)
+    ∙ ap (λ (r : Register). frameOf r (s called) (ty called) (now (start called .args .values))) (handed (s called))
 
 pub frame-spec : {M : Type 1} → statement M
 frame-spec =

@@ -5,13 +5,13 @@ use mathlib.Core.Path.{_≡_, _∙_, ap, ap₂}
 use mathlib.Core.List.{List}
 use lib.ListN.{length, set, length-set}
 use denote.Ref.{now}
-use Rattle.scrambler.specs.Scrambler.{restarted}
+use Rattle.scrambler.specs.Scrambler.{Register, from}
 use Rattle.bodies.specs.Bodies.{laidFrom, widthsIn}
 use Rattle.bodies.proofs.Laws.{length-laid}
 use Rattle.frames.specs.Frames.{sealed, bodyIn}
 use Rattle.frames.proofs.Parts.{length-body, length-sealed}
-use Rattle.parts.proofs.Laws.{seals}
-use Rattle.parts.proofs.Lent.{lent, put, length-put, body-put}
+use Rattle.sealing.proofs.Laws.{seals}
+use Rattle.sealing.proofs.Lent.{lent, put, length-put, body-put}
 use Rattle.writing.proofs.Laid.{lent-body, first-put}
 use borrow.Author.Needs.{needs}
 use Rattle.writing.proofs.writer.send.Statement.{statement}
@@ -43,6 +43,9 @@ module _ (c : tie.After-write) where
   abbrev part : List ℕ
   part = now (start .args .part)
 
+  abbrev register : Register
+  register = from (start .args .near) (start .args .far) (start .args .start)
+
   abbrev laid : List ℕ → List ℕ
   laid = laidFrom 0 (widthsIn (start .args .layout)) (now (start .args .values))
 
@@ -68,14 +71,14 @@ returns : tie.Need-returns
 returns c =
     let at = c .before .before .before .before .before .before in
     c .before .before .seal .ensures
-    ∙ seals restarted (set (put (part at) (body at)) 0 (start at .args .typed)) (enough at)
-    ∙ ap₂ (sealed restarted) (first-put (part at) (body at) (start at .args .typed) (start at .pre)) (body-is at)
+    ∙ seals (register at) (set (put (part at) (body at)) 0 (start at .args .typed)) (enough at)
+    ∙ ap₂ (sealed (register at)) (first-put (part at) (body at) (start at .args .typed) (start at .pre)) (body-is at)
 
 same-length : tie.Need-same-length
 same-length c =
     let at = c .before .before .before .before .before .before in
     ap length (returns c)
-    ∙ length-sealed restarted (start at .args .typed) (laid at (bodyIn (part at)))
+    ∙ length-sealed (register at) (start at .args .typed) (laid at (bodyIn (part at)))
     ∙ ap (λ (n : ℕ). n + 3) (length-laid 0 (widthsIn (start at .args .layout)) (now (start at .args .values)) (bodyIn (part at)))
     ∙ length-body (part at) (start at .pre)
 

@@ -12,9 +12,9 @@ use denote.Ref.{now}
 use Rattle.layouts.specs.Layouts.{carries, entryOf}
 use Rattle.bodies.specs.Bodies.{fitting, widthsIn}
 use Rattle.bodies.proofs.Laws.{widths-in}
+use Rattle.frames.specs.Registers.{registerOf}
 use Rattle.frames.specs.Frames.{frameLength}
 use Rattle.frames.specs.Writing.{refusedWriting}
-use Rattle.scrambler.specs.Scrambler.{restarted}
 use Rattle.satellites.specs.declared.Satellite.{Satellite}
 use Rattle.layouts.specs.declared.Layout.{Layout}
 use Rattle.frames.proofs.Writings.{wroteAs}
@@ -59,7 +59,7 @@ returns : tie.Need-returns
 returns c =
     let at = c .before .before in
     let other = sym (ap (λ (l : Layout). l .carried) (at .of .ensures)) ∙ not-true (at .of .result .carried) (c .before .if1 .taken) in
-    let told = refuses-5 restarted (s at) (ty at) (values at) (output at) other in
+    let told = refuses-5 registerOf (s at) (ty at) (values at) (output at) other in
     (c .refused .ensures ∙ told .0, told .1)
 
 is-carried : (c : tie.Else1) → carries (s (c .before)) (ty (c .before)) ≡ true
@@ -78,7 +78,7 @@ returns-2 : tie.Need-returns-2
 returns-2 c =
     let carried = c .before .before .before in
     let at = carried .before in
-    let told = refuses-10 restarted (s at) (ty at) (values at) (output at) (is-carried carried)
+    let told = refuses-10 registerOf (s at) (ty at) (values at) (output at) (is-carried carried)
     (λ e. c .before .if2 .taken (e ∙ sym (counted at))) in
     (c .refused2 .ensures ∙ told .0, told .1)
 
@@ -103,7 +103,7 @@ returns-3 c =
     let carried = by-type many in
     let at = carried .before in
     let lowest = fits (c .before .before .before) in
-    let told = refuses-11 restarted (s at) (ty at) (values at) (output at) (is-carried carried) (as-many many)
+    let told = refuses-11 registerOf (s at) (ty at) (values at) (output at) (is-carried carried) (as-many many)
     (λ e. c .before .if3 .taken (lowest ∙ e ∙ sym (counted at))) in
     (c .refused3 .ensures ∙ ap (refusedWriting 11) lowest ∙ told .0, told .1)
 
@@ -130,7 +130,7 @@ returns-4 c =
     let carried = by-type many in
     let at = carried .before in
     let short : length (output at) < frameLength (s at) (ty at) = omega (arith, its-length fit) in
-    let told = refuses-12 restarted (s at) (ty at) (values at) (output at) (is-carried carried) (as-many many) (all-fit fit) short in
+    let told = refuses-12 registerOf (s at) (ty at) (values at) (output at) (is-carried carried) (as-many many) (all-fit fit) short in
     (c .refused4 .ensures ∙ told .0, told .1)
 
 sub-frame : tie.Need-sub-frame
@@ -168,7 +168,7 @@ returns-5 c =
     let carried = by-type many in
     let at = carried .before in
     let enough : frameLength (s at) (ty at) ≤ length (output at) = omega (arith, its-length fit) in
-    accepts restarted (s at) (ty at) (values at) (output at) (is-carried carried) (as-many many) (all-fit fit) enough
+    accepts registerOf (s at) (ty at) (values at) (output at) (is-carried carried) (as-many many) (all-fit fit) enough
     (ap wroteAs (its-length fit)) (lent-length fit) (c .before .before .frame .ensures)
 
 pub write-spec : {M : Type 1} → statement M
