@@ -1,4 +1,4 @@
--- What an answer that accepts tells of a frame and its values; and values there and back.
+-- What follows from an answer that accepts, for a frame and its values; and values there and back.
 -- Assumes nothing.
 use Prim.Native.Nat.{ℕ, _≤_, _<_}
 use native.Mathlib.Omega.{arith}

@@ -18,7 +18,7 @@ use Rattle.refusals.proofs.Tests.{equal-same}
 use Rattle.frames.specs.Frames.{training, sync, sizeIn, fromTypeByte, typeIn, addressIn, typeOf, frameLength}
 use Rattle.frames.specs.Reading.{trained, synced, frontTests, wholeTests, frameTests, checksumRight}
 
--- where the type byte stands, from sync on
+-- the place of the type byte, counted from sync
 abbrev pub behindSync : Satellite → ℕ
 behindSync s = 2 + cond (sizeByteOf s) 1 0
 

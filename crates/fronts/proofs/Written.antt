@@ -1,4 +1,4 @@
--- What stands ahead of the type byte, written.
+-- What comes before the type byte, written.
 -- Assumes nothing.
 use Prim.Native.Nat.{ℕ, _+_, _-_}
 use native.Mathlib.Omega.{arith}

@@ -1,4 +1,4 @@
--- What the front of a frame tells, and what writing one leaves.
+-- What is answered for a front, and what writing one leaves.
 use Prim.Native.Nat.{ℕ}
 use mathlib.Core.Bool.{cond}
 use mathlib.Core.List.{List}
@@ -15,6 +15,6 @@ use Rattle.fronts.specs.declared.Front.{Front}
 abbrev pub frontOf : List Test → Satellite → List ℕ → Front
 frontOf tests s frame = record { refusal = refusal tests; ty = typeOf s frame; layout = layoutOf s (typeOf s frame) }
 
--- a part as long as what stands ahead of the type byte is filled with it; any other stays
+-- a part as long as what comes before the type byte is filled with it; any other stays as it is
 abbrev pub frontAfter : Satellite → ℕ → List ℕ → List ℕ
 frontAfter s size part = cond (eqb (length part) (typeByteAt s)) (ahead s size) part

@@ -1,5 +1,5 @@
 -- The temperatures of type 2: every satellite carries the type, the fields behind the clock, if there is one, are ten of 8 bits and
--- nothing else; and where each of the ten stands.
+-- nothing else; and at which bit each of the ten starts.
 -- Assumes nothing.
 use Prim.Native.Nat.{ℕ, zero, suc, _+_, _*_, _<_}
 use native.Mathlib.Nat.{add-zero, add-suc}
