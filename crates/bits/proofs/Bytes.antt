@@ -1,6 +1,6 @@
 -- Bytes and their bits: `bitsOf` and `packed` are inverse, and a cut between bytes is a cut at a multiple of 8 bits.
 -- Assumes nothing.
-use mathlib.Core.Path.{_≡_, refl, ap, ap₂, _∙_}
+use mathlib.Core.Path.{_≡_, refl, sym, ap, ap₂, _∙_}
 use mathlib.Core.Bool.{Bool}
 use mathlib.Core.List.{List, [], _∷_, _++_, append-assoc}
 use Prim.Native.Nat.{ℕ, zero, suc, _+_, _*_}
@@ -80,3 +80,14 @@ unfolding packed
 packed-bytes zero bs i = omega arith
 packed-bytes (suc n) bs zero = le-trans (number-lt (take 8 bs)) (pow-mono {j = 8} (rw length-take (min-le-left 8 (length bs))))
 packed-bytes (suc n) bs (suc i) = packed-bytes n (drop 8 bs) i
+
+pub append-bytes : (xs ys : List ℕ) → Bytes xs → Bytes ys → Bytes (xs ++ ys)
+append-bytes [] ys hx hy i = hy i
+append-bytes (x ∷ xs) ys hx hy zero = hx 0
+append-bytes (x ∷ xs) ys hx hy (suc i) = append-bytes xs ys (λ j. hx (suc j)) hy i
+
+-- bytes whose bits are the same are the same
+pub same-bytes : (xs ys : List ℕ) → Bytes xs → Bytes ys → bitsOf xs ≡ bitsOf ys → xs ≡ ys
+same-bytes xs ys hx hy e =
+    let long : length xs ≡ length ys = omega (arith, length-bitsOf xs, length-bitsOf ys, ap length e) in
+    sym (packed-bitsOf xs hx) ∙ ap₂ packed long e ∙ packed-bitsOf ys hy

@@ -20,6 +20,7 @@ struct Place {
 // The field of `width` bits from bit `at` on. Where no field of at most 32 bits lies there, the answer is 0.
 pub fn read_field(bytes: &[u8], at: usize, width: usize) -> u32
     ensures { λ r. ⌜ r ≡ fieldAnswer at width (now (bytes .entry)) ⌝ }
+    ensures { λ _. ⌜ now (bytes .exit) ≡ now (bytes .entry) ⌝ }
 {
     let p = locate(bytes.len(), at, width);
     let inside = p.inside;

@@ -1,5 +1,5 @@
--- Any two results that a public function's contract allows for one input are equal. `Post` is the contract's own text, as
--- the check reads it: the arguments, the result, and the parameters at exit.
+-- Any two results that a public function's contract allows for one input are equal: the answer, and what is left in each slice that the
+-- function was lent. `Post` is the contract's own text, as the check reads it: the arguments, the result, and the parameters at exit.
 -- And nothing is asked of a caller: `Pre`, what the contract requires, holds of all arguments.
 -- Assumes nothing.
 use mathlib.Core.Path.{_≡_, sym, _∙_}
@@ -9,14 +9,17 @@ use Rattle.bodies.proofs.fitting.Reads as fitting
 use Rattle.bodies.proofs.write.Reads as write
 use Rattle.bodies.proofs.fits.Reads as fits
 
-pub read-determined : (κs a r r′ s s′ : _) → read.Post κs a r s → read.Post κs a r′ s′ → now (s .1 .1 .0) ≡ now (s′ .1 .1 .0)
-read-determined κs a r r′ s s′ p q = p ∙ sym q
+pub read-determined : (κs a r r′ s s′ : _) → read.Post κs a r s → read.Post κs a r′ s′
+    → (now (s .1 .0) ≡ now (s′ .1 .0)) × (now (s .1 .1 .0) ≡ now (s′ .1 .1 .0))
+read-determined κs a r r′ s s′ p q = (p .1 ∙ sym (q .1), p .0 ∙ sym (q .0))
 
-pub fitting-determined : (κs a r r′ s s′ : _) → fitting.Post κs a r s → fitting.Post κs a r′ s′ → r ≡ r′
-fitting-determined κs a r r′ s s′ p q = p ∙ sym q
+pub fitting-determined : (κs a r r′ s s′ : _) → fitting.Post κs a r s → fitting.Post κs a r′ s′
+    → (r ≡ r′) × (now (s .1 .0) ≡ now (s′ .1 .0))
+fitting-determined κs a r r′ s s′ p q = (p .0 ∙ sym (q .0), p .1 ∙ sym (q .1))
 
-pub write-determined : (κs a r r′ s s′ : _) → write.Post κs a r s → write.Post κs a r′ s′ → now (s .1 .1 .0) ≡ now (s′ .1 .1 .0)
-write-determined κs a r r′ s s′ p q = p ∙ sym q
+pub write-determined : (κs a r r′ s s′ : _) → write.Post κs a r s → write.Post κs a r′ s′
+    → (now (s .1 .0) ≡ now (s′ .1 .0)) × (now (s .1 .1 .0) ≡ now (s′ .1 .1 .0))
+write-determined κs a r r′ s s′ p q = (p .1 ∙ sym (q .1), p .0 ∙ sym (q .0))
 
 pub fits-determined : (κs a r r′ s s′ : _) → fits.Post κs a r s → fits.Post κs a r′ s′ → r ≡ r′
 fits-determined κs a r r′ s s′ p q = p ∙ sym q

@@ -14,6 +14,7 @@ use layouts::MOST_FIELDS;
 // not lie inside the body reads as 0.
 pub fn read(layout: Layout, body: &[u8], room: &mut [u32])
     ensures { λ _. ⌜ now (room .exit) ≡ filled (valuesFrom 0 (widthsIn layout) (now (body .entry))) (now (room .entry)) ⌝ }
+    ensures { λ _. ⌜ now (body .exit) ≡ now (body .entry) ⌝ }
 {
     let widths = layout.widths;
     let mut at: usize = 0;
@@ -36,6 +37,7 @@ pub fn read(layout: Layout, body: &[u8], room: &mut [u32])
 // A value that is missing counts as 0.
 pub fn fitting(layout: Layout, values: &[u32]) -> usize
     ensures { λ r. ⌜ r ≡ fitting (widthsIn layout) (now (values .entry)) ⌝ }
+    ensures { λ _. ⌜ now (values .exit) ≡ now (values .entry) ⌝ }
 {
     let widths = layout.widths;
     let mut k: usize = 0;
@@ -55,6 +57,7 @@ pub fn fitting(layout: Layout, values: &[u32]) -> usize
 // 0; a field that does not lie inside the body is not written.
 pub fn write(layout: Layout, values: &[u32], body: &mut [u8])
     ensures { λ _. ⌜ now (body .exit) ≡ laidFrom 0 (widthsIn layout) (now (values .entry)) (now (body .entry)) ⌝ }
+    ensures { λ _. ⌜ now (values .exit) ≡ now (values .entry) ⌝ }
 {
     let widths = layout.widths;
     let mut at: usize = 0;

@@ -11,6 +11,7 @@ const START: u16 = 0xFFFF;
 // The checksum of all the bytes.
 pub fn of(bytes: &[u8]) -> u16
     ensures { λ r. ⌜ r ≡ checksum (now (bytes .entry)) ⌝ }
+    ensures { λ _. ⌜ now (bytes .exit) ≡ now (bytes .entry) ⌝ }
 {
     let mut register = START;
     let mut i = 0;

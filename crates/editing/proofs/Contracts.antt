@@ -4,6 +4,7 @@
 -- Assumes nothing.
 use mathlib.Core.Path.{_≡_}
 use denote.Ref.{now}
+use Rattle.bits.specs.Bits.{Bytes}
 use Rattle.satellites.specs.Satellites.{known}
 use Rattle.frames.specs.Registers.{registerOf}
 use Rattle.frames.specs.Editing.{editingBy, frameAfterBy}
@@ -11,5 +12,6 @@ use Rattle.editing.proofs.edit.Reads as edit
 
 pub edit-says : (κs a r s : _) → edit.Post κs a r s
     → (r ≡ editingBy registerOf (known (a .0)) (now (a .1 .0)) (a .1 .1 .0) (a .1 .1 .1 .0))
-    × (now (s .1 .0) ≡ frameAfterBy registerOf (known (a .0)) (now (a .1 .0)) (a .1 .1 .0) (a .1 .1 .1 .0))
+    × ((now (s .1 .0) ≡ frameAfterBy registerOf (known (a .0)) (now (a .1 .0)) (a .1 .1 .0) (a .1 .1 .1 .0))
+    × Bytes (now (a .1 .0)))
 edit-says κs a r s p = p

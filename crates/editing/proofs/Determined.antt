@@ -8,7 +8,7 @@ use Rattle.editing.proofs.edit.Reads as edit
 
 pub edit-determined : (κs a r r′ s s′ : _) → edit.Post κs a r s → edit.Post κs a r′ s′
     → (r ≡ r′) × (now (s .1 .0) ≡ now (s′ .1 .0))
-edit-determined κs a r r′ s s′ p q = (p .0 ∙ sym (q .0), p .1 ∙ sym (q .1))
+edit-determined κs a r r′ s s′ p q = (p .0 ∙ sym (q .0), p .1 .0 ∙ sym (q .1 .0))
 
 pub edit-asks-nothing : (κs a : _) → edit.Pre κs a
 edit-asks-nothing κs a = tt

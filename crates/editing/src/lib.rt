@@ -5,6 +5,7 @@
 mod editor;
 
 ghost use mathlib.Core.Path.{_≡_};
+ghost use Rattle.bits.specs.Bits.{Bytes};
 ghost use Rattle.satellites.specs.Satellites.{known};
 ghost use Rattle.frames.specs.Editing.{editing, frameAfter};
 use frames::Writing;
@@ -12,9 +13,11 @@ use satellites::Known;
 use satellites::Satellite;
 
 // Edits one field of a frame that this satellite sent: the frame with that field alone replaced takes the old one's place.
+// The last promise says what a lent slice of bytes is.
 pub fn edit(satellite: u32, frame: &mut [u8], field: usize, value: u32) -> Writing
     ensures { λ r. ⌜ r ≡ editing (known satellite) (now (frame .entry)) field value ⌝ }
     ensures { λ _. ⌜ now (frame .exit) ≡ frameAfter (known satellite) (now (frame .entry)) field value ⌝ }
+    ensures { λ _. ⌜ Bytes (now (frame .entry)) ⌝ }
 {
     match Satellite::from_number(satellite) {
         Known::Is(named) => editor::edit(named, frame, field, value),

@@ -1,5 +1,5 @@
 -- An accepted frame of type 2 carries ten codes of temperatures: the ten values of the room from the satellite's first temperature
--- on. Each is the 8 bits of the unscrambled body that stand in its place, and so at most 255.
+-- on. Each is the 8 bits of the unscrambled body in its place, and so at most 255.
 -- Assumes nothing.
 use Prim.Native.Nat.{ℕ, _+_, _*_, _^_, _≤_, _<_}
 use native.Mathlib.Omega.{arith}
@@ -9,6 +9,7 @@ use lib.ListN.{length, getD, take, drop, length-take, length-drop}
 use lib.Seq.{length-take-le, getD-take, getD-drop}
 use Rattle.bits.specs.Bits.{field}
 use Rattle.frames.specs.Registers.{Registers}
+use Rattle.frames.specs.Paper.{printedOf, body}
 use Rattle.satellites.specs.declared.Satellite.{Satellite}
 use Rattle.satellites.specs.declared.Known.the-variants.{Is}
 use Rattle.layouts.specs.Layouts.{entryOf, firstBehindClock, widthAt}
@@ -16,7 +17,6 @@ use Rattle.layouts.proofs.Sensors.{fields-2, sensor-width, sensor-start}
 use Rattle.bodies.proofs.Laws.{fits-exactly}
 use Rattle.frames.specs.Reading.{readingBy, roomAfterBy}
 use Rattle.frames.proofs.Exact as exact
-use Rattle.frames.proofs.DemandOne.{unscrambled}
 use Rattle.frames.proofs.DemandTwo.{accepted-values}
 
 module _ (r : Registers) (s : Satellite) (frame room : List ℕ) where
@@ -57,9 +57,9 @@ module _ (r : Registers) (s : Satellite) (frame room : List ℕ) where
         omega (arith, code-at k h, value, fits, wide)
 
     -- code k is the 8 bits of the body that start 8 * k bits behind the first temperature's start, which is the body's, or 32
-    -- bits behind it where a clock stands ahead
-    pub code-is : (k : ℕ) → k < 10 → getD codes k 0 ≡ field (32 * first + 8 * k) 8 (unscrambled (r s) s frame)
+    -- bits behind it where a clock comes first
+    pub code-is : (k : ℕ) → k < 10 → getD codes k 0 ≡ field (32 * first + 8 * k) 8 (body (printedOf r s) frame)
     code-is k h =
         code-at k h
         ∙ accepted-values r s frame room 2 n answer .1 .0 (first + k) (omega (arith, h, count))
-        ∙ ap₂ (λ (at width : ℕ). field at width (unscrambled (r s) s frame)) (sensor-start s k h) (sensor-width s k h)
+        ∙ ap₂ (λ (at width : ℕ). field at width (body (printedOf r s) frame)) (sensor-start s k h) (sensor-width s k h)

@@ -83,9 +83,8 @@ module _ (r : Registers) (s : Satellite) (t n : ℕ) (frame room : List ℕ)
   carried : carries s t ≡ true
   carried = exact.its-carried r s frame room t n answer
 
-  -- a lent frame holds bytes and nothing else
-  of-values : Bytes frame → frameOf (r s) s t values ≡ frame
-  of-values = exact.frame-of-values r s frame room t n answer
+  bits-of-values : bitsOf (frameOf (r s) s t values) ≡ bitsOf frame
+  bits-of-values = exact.bits-of-values r s frame room t n answer
 
   -- "and a new value that fits"
   module _ (v : ℕ) (fits : v < 2 ^ widthAt ws k) where
@@ -137,39 +136,41 @@ module _ (r : Registers) (s : Satellite) (t n : ℕ) (frame room : List ℕ)
         )
 
     -- "All sent bits ahead of the field stay": all ahead of the body, and those of the body up to the field
-    pub ahead-stays : Bytes frame
-        → let ahead = 8 * (typeByteAt s + 1) + startAt ws k in
+    pub ahead-stays : let ahead = 8 * (typeByteAt s + 1) + startAt ws k in
         take ahead (bitsOf (frameAfterBy r (Is s) frame k v)) ≡ take ahead (bitsOf frame)
-    ahead-stays bytes =
-        let up-to : List ℕ → List Bool = λ (l : List ℕ). take (8 * (typeByteAt s + 1) + startAt ws k) (bitsOf l) in
-        ap up-to edited-is ∙ edited-ahead (r s) s t carried values k v there ∙ ap up-to (of-values bytes)
+    ahead-stays =
+        let ahead = 8 * (typeByteAt s + 1) + startAt ws k in
+        ap (λ (l : List ℕ). take ahead (bitsOf l)) edited-is
+        ∙ edited-ahead (r s) s t carried values k v there
+        ∙ ap (take ahead) bits-of-values
 
   old-fits : old < 2 ^ widthAt ws k
   old-fits = subst (λ m. m < 2 ^ widthAt ws k) old-at (fits-exactly ws values (exact.all-fit r s frame room t n answer) k there)
 
-  -- "Editing a field to the value it has leaves all bytes as they are", and is accepted
+  -- "Editing a field to the value it has leaves all bytes as they are", and is accepted. A lent frame holds bytes and nothing else
   pub edited-same : Bytes frame
       → (editingBy r (Is s) frame k old ≡ record { refusal = 0; answer = length frame }) × (frameAfterBy r (Is s) frame k old ≡ frame)
   edited-same bytes = (
     edit-accepted old old-fits,
-    edited-is old old-fits ∙ ap (frameOf (r s) s t) (ap (set values k) (sym old-at) ∙ set-getD values k 0) ∙ of-values bytes,
+    edited-is old old-fits ∙ ap (frameOf (r s) s t) (ap (set values k) (sym old-at) ∙ set-getD values k 0)
+        ∙ exact.frame-of-values r s frame room t n answer bytes,
   )
 
 -- "If two accepted frames of one satellite and type have the same field edited so that old and new value differ in the same
 -- bit places, the same sent bits flip in both, however the other fields differ", those of the checksum among them
 pub same-bits-flip : (r : Registers) (s : Satellite) (t k n n′ : ℕ) (frame frame′ room room′ : List ℕ)
-    → readingBy r (Is s) frame room ≡ record { refusal = 0; ty = t; count = n } → Bytes frame
-    → readingBy r (Is s) frame′ room′ ≡ record { refusal = 0; ty = t; count = n′ } → Bytes frame′
+    → readingBy r (Is s) frame room ≡ record { refusal = 0; ty = t; count = n }
+    → readingBy r (Is s) frame′ room′ ≡ record { refusal = 0; ty = t; count = n′ }
     → k < n
     → let w = widthAt (entryOf s t .widths) k in
     (v v′ : ℕ) → v < 2 ^ w → v′ < 2 ^ w
     → differ w (getD (roomAfterBy r (Is s) frame room) k 0) v ≡ differ w (getD (roomAfterBy r (Is s) frame′ room′) k 0) v′
     → flips frame (frameAfterBy r (Is s) frame k v) ≡ flips frame′ (frameAfterBy r (Is s) frame′ k v′)
-same-bits-flip r s t k n n′ frame frame′ room room′ answer bytes answer′ bytes′ inside v v′ fits fits′ same =
+same-bits-flip r s t k n n′ frame frame′ room room′ answer answer′ inside v v′ fits fits′ same =
     let counts = answers.its-count r s frame room t n answer in
     let inside′ : k < n′ = omega (arith, counts, answers.its-count r s frame′ room′ t n′ answer′, inside) in
     let w = widthAt (entryOf s t .widths) k in
-    ap₂ flips (sym (of-values r s t n frame room answer k inside bytes)) (edited-is r s t n frame room answer k inside v fits)
+    ap₂ _⊞_ (sym (bits-of-values r s t n frame room answer k inside)) (ap bitsOf (edited-is r s t n frame room answer k inside v fits))
     ∙ edited-flips (r s) s t (carried r s t n frame room answer k inside)
     (values r s t n frame room answer k inside) (values r s t n′ frame′ room′ answer′ k inside′) k v v′
     (as-many r s t n frame room answer k inside) (as-many r s t n′ frame′ room′ answer′ k inside′)
@@ -178,8 +179,8 @@ same-bits-flip r s t k n n′ frame frame′ room room′ answer bytes answer′
     ∙ same
     ∙ ap (λ (x : ℕ). differ w x v′) (sym (old-at r s t n′ frame′ room′ answer′ k inside′)))
     ∙ sym
-    (ap₂ flips (sym (of-values r s t n′ frame′ room′ answer′ k inside′ bytes′))
-    (edited-is r s t n′ frame′ room′ answer′ k inside′ v′ fits′))
+    (ap₂ _⊞_ (sym (bits-of-values r s t n′ frame′ room′ answer′ k inside′))
+    (ap bitsOf (edited-is r s t n′ frame′ room′ answer′ k inside′ v′ fits′)))
 
 -- and editing accepts no other: what it accepts reading does, given room, and it is one of the frame's fields and a value that fits
 pub accepted-only : (r : Registers) (s : Satellite) (frame : List ℕ) (k v : ℕ) → editingBy r (Is s) frame k v .refusal ≡ 0

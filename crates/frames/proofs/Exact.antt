@@ -24,7 +24,7 @@ use Rattle.frames.proofs.Fronts as fronts
 use Rattle.frames.proofs.Readings.{readAs}
 use Rattle.frames.proofs.Writings as writings
 use Rattle.frames.proofs.Writings.{wroteAs}
-use Rattle.frames.proofs.Wholes.{frame-again, values-again}
+use Rattle.frames.proofs.Wholes.{bits-again, frame-again, values-again}
 use Rattle.frames.proofs.Wholes as wholes
 use Rattle.frames.proofs.Answers as answers
 
@@ -85,11 +85,24 @@ module _ (r : Registers) (s : Satellite) (frame room : List ℕ) where
         ∙ take-at (valuesOf (r s) s frame) (drop n room) n values-length
         ∙ ap (λ (u : ℕ). told (entryOf s u .widths) (bitsOf (clearBody (r s) part))) typed
 
-    -- it is the frame of its values
-    pub frame-of-values : Bytes frame → frameOf (r s) s t (take n (roomAfterBy r (Is s) frame room)) ≡ frame
+    abbrev values : List ℕ
+    values = take n (roomAfterBy r (Is s) frame room)
+
+    -- its type and its values make it again
+    of-values : frameOf (r s) s t values ≡ frameOf (r s) s (typeOf s frame) (valuesOf (r s) s frame)
     unfolding valuesOf
+    of-values =
+        ap₂ (frameOf (r s) s) (sym typed)
+        (values-read ∙ ap (λ (u : ℕ). told (entryOf s u .widths) (bitsOf (clearBody (r s) part))) (sym typed))
+
+    pub bits-of-values : bitsOf (frameOf (r s) s t values) ≡ bitsOf frame
+    bits-of-values =
+        ap bitsOf of-values
+        ∙ bits-again (r s) s frame (answers.was-whole r s frame room t n answer) (answers.was-right r s frame room t n answer)
+
+    pub frame-of-values : Bytes frame → frameOf (r s) s t values ≡ frame
     frame-of-values b =
-        ap₂ (frameOf (r s) s) (sym typed) (values-read ∙ ap (λ (u : ℕ). told (entryOf s u .widths) (bitsOf (clearBody (r s) part))) (sym typed))
+        of-values
         ∙ frame-again (r s) s frame (answers.was-whole r s frame room t n answer) (answers.was-right r s frame room t n answer) b
 
     whole : refusal (wholeTests s frame) ≡ 0

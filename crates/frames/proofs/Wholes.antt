@@ -1,66 +1,78 @@
 -- Whole frames: one whose parts are right is the frame of its values, and the frame of any values has the right parts.
 -- Assumes nothing.
-use Prim.Native.Nat.{ℕ, _+_, _-_}
+use Prim.Native.Nat.{ℕ, _+_, _-_, _*_, _<_}
 use native.Mathlib.Omega.{arith}
-use mathlib.Core.Path.{_≡_, sym, _∙_, ap, ap₂}
+use mathlib.Core.Path.{_≡_, sym, _∙_, ap, ap₂, subst}
 use mathlib.Core.Bool.{Bool, true, cond}
 use mathlib.Core.List.{List, [], _∷_, _++_, append-assoc}
 use lib.ListN.{length, getD, take, drop, length-append, length-replicate, List·getD-append, take-append-drop}
 use lib.Seq.{take-at, drop-at, getD-append-add}
 use borrow.Author.Tests.{eqb-true}
-use Rattle.bits.specs.Bits.{bitsOf, packed, Bytes}
-use Rattle.bits.proofs.Bytes.{length-bitsOf, length-packed, packed-bitsOf, bitsOf-packed, packed-bytes}
+use Rattle.bits.specs.Bits.{bitsOf, Bytes}
+use Rattle.bits.proofs.Bytes.{length-bitsOf, length-packed, bitsOf-append, bitsOf-packed, packed-bytes, append-bytes, same-bytes}
 use Rattle.bits.proofs.Fields.{drop-bytes, take-bytes}
 use Rattle.checksum.specs.Checksum.{checksum}
 use Rattle.scrambler.specs.Scrambler.{Register}
-use Rattle.scrambler.specs.declared.Direction.the-variants.{Unscramble}
-use Rattle.scrambler.proofs.Parts.{bytes-answer}
 use Rattle.satellites.specs.declared.Satellite.{Satellite}
 use Rattle.satellites.specs.Satellites.{trainingOf, sizeByteOf, typeByteAt}
-use Rattle.layouts.specs.Layouts.{carries, entryOf}
+use Rattle.layouts.specs.Layouts.{total, carries, entryOf}
 use Rattle.bodies.specs.Bodies.{told, tiled, fitting}
 use Rattle.bodies.proofs.Laws.{length-tiled, told-tiled, tiled-told}
 use Rattle.refusals.specs.Tests.{refusal}
 use Rattle.frames.specs.Frames.{sizeIn, training, sync, sizeByte, ahead, typeByte, sealed, bodyOf, frameOf, frameLength}
-use Rattle.frames.specs.Frames.{fromTypeByte, checksumIn, bodyIn, covered, clearBody, clear, typeOf, entryIn, valuesOf}
+use Rattle.frames.specs.Frames.{fromTypeByte, checksumIn, clearBody, clear, typeOf, entryIn, valuesOf}
 use Rattle.frames.specs.Reading.{wholeTests, checksumRight}
 use Rattle.frames.proofs.Fronts.{first-at, front-is, is-typed, part-least, clear-length, clear-tiled}
 use Rattle.frames.proofs.Preambles.{length-ahead}
 use Rattle.frames.proofs.Parts.{length-sealed}
 use Rattle.frames.proofs.Sizes.{three-least, size-least}
-use Rattle.frames.proofs.Seals.{sealed-checksum, sealed-first, sealed-clear, clear-sealed}
+use Rattle.frames.proofs.Seals.{sealed-checksum, sealed-first, sealed-clear, sealed-bits, sealed-bytes, clear-sealed}
 
 -- ---- a frame whose parts are right
 
 module _ (r : Register) (s : Satellite) (frame : List ℕ) (whole : refusal (wholeTests s frame) ≡ 0)
-    (right : checksumRight r (fromTypeByte s frame) ≡ true) (b : Bytes frame) where
+    (right : checksumRight r (fromTypeByte s frame) ≡ true) where
   abbrev part : List ℕ
   part = fromTypeByte s frame
 
   -- the body that its values make
-  clear-bytes : Bytes (clearBody r part)
-  unfolding clearBody
-  clear-bytes =
-      bytes-answer Unscramble r (bodyIn part)
-      (drop-bytes 1 (covered part) (take-bytes (length part - 2) part (drop-bytes (typeByteAt s) frame b)))
+  abbrev made : List ℕ
+  made = bodyOf (entryIn s frame) (valuesOf r s frame)
 
-  body-again : bodyOf (entryIn s frame) (valuesOf r s frame) ≡ clearBody r part
+  body-again : bitsOf made ≡ bitsOf (clearBody r part)
   unfolding valuesOf
   body-again =
       let body = clearBody r part in
       let ws = entryIn s frame .widths in
-      let bytes : entryIn s frame .size - 3 ≡ length body = omega (arith, clear-length s frame whole r) in
-      ap₂ packed bytes (tiled-told ws (bitsOf body) (length-bitsOf body ∙ sym (clear-tiled s frame whole r)))
-      ∙ packed-bitsOf body clear-bytes
+      let values = told ws (bitsOf body) in
+      let size : total ws ≡ 8 * (entryIn s frame .size - 3) = omega (arith, clear-length s frame whole r, clear-tiled s frame whole r) in
+      bitsOf-packed (entryIn s frame .size - 3) (tiled ws values) (length-tiled ws values ∙ size)
+      ∙ tiled-told ws (bitsOf body) (length-bitsOf body ∙ sym (clear-tiled s frame whole r))
 
-  pub frame-again : frameOf r s (typeOf s frame) (valuesOf r s frame) ≡ frame
+  -- written again, its values give its bits
+  pub bits-again : bitsOf (frameOf r s (typeOf s frame) (valuesOf r s frame)) ≡ bitsOf frame
   unfolding frameOf
-  frame-again =
-      ap₂ _++_ (sym (front-is s frame whole))
-      (ap₂ (sealed r) (sym (is-typed s frame whole)) body-again
-      ∙ clear-sealed r part (part-least s frame whole) (drop-bytes (typeByteAt s) frame b)
-      (eqb-true (checksumIn part) (checksum (clear r part)) right))
-      ∙ take-append-drop (typeByteAt s) frame
+  bits-again =
+      let front = take (typeByteAt s) frame in
+      let sum = eqb-true (checksumIn part) (checksum (clear r part)) right in
+      ap₂ (λ (f : List ℕ) (x : ℕ). bitsOf (f ++ sealed r x made)) (sym (front-is s frame whole)) (sym (is-typed s frame whole))
+      ∙ bitsOf-append front (sealed r (getD part 0 0) made)
+      ∙ ap (λ (l : List Bool). bitsOf front ++ l)
+      (sealed-bits r (getD part 0 0) made (clearBody r part) body-again ∙ clear-sealed r part (part-least s frame whole) sum)
+      ∙ sym (bitsOf-append front part)
+      ∙ ap bitsOf (take-append-drop (typeByteAt s) frame)
+
+  -- and its bytes, where it has bytes and nothing else
+  pub frame-again : Bytes frame → frameOf r s (typeOf s frame) (valuesOf r s frame) ≡ frame
+  unfolding frameOf
+  frame-again b =
+      let e = entryIn s frame in
+      let typed = subst (λ (x : ℕ). x < 256) (is-typed s frame whole) (drop-bytes (typeByteAt s) frame b 0) in
+      same-bytes (frameOf r s (typeOf s frame) (valuesOf r s frame)) frame
+      (append-bytes (ahead s (e .size)) (sealed r (typeByte s (typeOf s frame)) made)
+      (subst Bytes (front-is s frame whole) (take-bytes (typeByteAt s) frame b))
+      (sealed-bytes r (typeByte s (typeOf s frame)) made typed (packed-bytes (e .size - 3) (tiled (e .widths) (valuesOf r s frame)))))
+      b bits-again
 
 -- ---- the frame of values that fit
 

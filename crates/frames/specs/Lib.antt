@@ -1,4 +1,5 @@
 pub mod Registers
+pub mod Paper
 pub mod Frames
 pub mod Reading
 pub mod Writing

@@ -1,5 +1,5 @@
--- Any two results that a public function's contract allows for one input are equal: the answer, and what is left in a lent part. `Post`
--- is the contract's own text, as the check reads it: the arguments, the result, and the parameters at exit.
+-- Any two results that a public function's contract allows for one input are equal: the answer, and what is left in each slice that the
+-- function was lent. `Post` is the contract's own text, as the check reads it: the arguments, the result, and the parameters at exit.
 -- And nothing is asked of a caller: `Pre`, what the contract requires, holds of all arguments.
 -- Assumes nothing.
 use mathlib.Core.Path.{_≡_, sym, _∙_}
@@ -9,14 +9,17 @@ use Rattle.fronts.proofs.type_sent.Reads as type-sent
 use Rattle.fronts.proofs.whole.Reads as whole
 use Rattle.fronts.proofs.preamble.write.Reads as write
 
-pub whole-determined : (κs a r r′ s s′ : _) → whole.Post κs a r s → whole.Post κs a r′ s′ → r ≡ r′
-whole-determined κs a r r′ s s′ p q = p ∙ sym q
+pub whole-determined : (κs a r r′ s s′ : _) → whole.Post κs a r s → whole.Post κs a r′ s′
+    → (r ≡ r′) × (now (s .1 .0) ≡ now (s′ .1 .0))
+whole-determined κs a r r′ s s′ p q = (p .0 ∙ sym (q .0), p .1 ∙ sym (q .1))
 
-pub of-determined : (κs a r r′ s s′ : _) → of.Post κs a r s → of.Post κs a r′ s′ → r ≡ r′
-of-determined κs a r r′ s s′ p q = p ∙ sym q
+pub of-determined : (κs a r r′ s s′ : _) → of.Post κs a r s → of.Post κs a r′ s′
+    → (r ≡ r′) × (now (s .1 .0) ≡ now (s′ .1 .0))
+of-determined κs a r r′ s s′ p q = (p .0 ∙ sym (q .0), p .1 ∙ sym (q .1))
 
-pub type-sent-determined : (κs a r r′ s s′ : _) → type-sent.Post κs a r s → type-sent.Post κs a r′ s′ → r ≡ r′
-type-sent-determined κs a r r′ s s′ p q = p ∙ sym q
+pub type-sent-determined : (κs a r r′ s s′ : _) → type-sent.Post κs a r s → type-sent.Post κs a r′ s′
+    → (r ≡ r′) × (now (s .1 .0) ≡ now (s′ .1 .0))
+type-sent-determined κs a r r′ s s′ p q = (p .0 ∙ sym (q .0), p .1 ∙ sym (q .1))
 
 pub write-determined : (κs a r r′ s s′ : _) → write.Post κs a r s → write.Post κs a r′ s′ → now (s .1 .1 .0) ≡ now (s′ .1 .1 .0)
 write-determined κs a r r′ s s′ p q = p ∙ sym q

@@ -26,6 +26,7 @@ pub struct Front {
 // Tests 2 to 6, whatever comes behind the type byte.
 pub fn of(satellite: Satellite, frame: &[u8]) -> Front
     ensures { λ r. ⌜ r ≡ frontOf (frontTests satellite (now (frame .entry))) satellite (now (frame .entry)) ⌝ }
+    ensures { λ _. ⌜ now (frame .exit) ≡ now (frame .entry) ⌝ }
 {
     let ty = type_sent(satellite, frame);
     let layout = layouts::of(satellite, ty);
@@ -40,6 +41,7 @@ pub fn of(satellite: Satellite, frame: &[u8]) -> Front
 // Tests 2 to 7, on a whole frame.
 pub fn whole(satellite: Satellite, frame: &[u8]) -> Front
     ensures { λ r. ⌜ r ≡ frontOf (wholeTests satellite (now (frame .entry))) satellite (now (frame .entry)) ⌝ }
+    ensures { λ _. ⌜ now (frame .exit) ≡ now (frame .entry) ⌝ }
 {
     let front = of(satellite, frame);
     let number = front.refusal;
@@ -59,6 +61,7 @@ pub fn whole(satellite: Satellite, frame: &[u8]) -> Front
 // The type in the type byte; 0 where the frame ends ahead of it.
 pub fn type_sent(satellite: Satellite, frame: &[u8]) -> u32
     ensures { λ r. ⌜ r ≡ typeOf satellite (now (frame .entry)) ⌝ }
+    ensures { λ _. ⌜ now (frame .exit) ≡ now (frame .entry) ⌝ }
 {
     let at = satellite.type_byte_at();
     if frame.len() <= at {

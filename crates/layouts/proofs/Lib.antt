@@ -3,6 +3,7 @@ pub mod Places
 pub mod Laid
 pub mod Clocks
 pub mod Sensors
+pub mod Paper
 pub mod Contracts
 pub mod Determined
 mod Told

@@ -1,3 +1,4 @@
 pub mod Layouts
 pub mod Rules
+pub mod Paper
 pub mod Rows

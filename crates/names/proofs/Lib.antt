@@ -1,6 +1,7 @@
 pub mod Along
 pub mod Arrays
 pub mod Clocks
+pub mod Contracts
 pub mod Counted
 pub mod Determined
 pub mod Distinct

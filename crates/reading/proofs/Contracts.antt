@@ -4,6 +4,7 @@
 -- Assumes nothing.
 use mathlib.Core.Path.{_≡_}
 use denote.Ref.{now}
+use Rattle.bits.specs.Bits.{Bytes}
 use Rattle.satellites.specs.Satellites.{known}
 use Rattle.frames.specs.Registers.{registerOf}
 use Rattle.frames.specs.Reading.{readingBy, roomAfterBy}
@@ -11,5 +12,6 @@ use Rattle.reading.proofs.read.Reads as read
 
 pub read-says : (κs a r s : _) → read.Post κs a r s
     → (r ≡ readingBy registerOf (known (a .0)) (now (a .1 .0)) (now (a .1 .1 .0)))
-    × (now (s .1 .1 .0) ≡ roomAfterBy registerOf (known (a .0)) (now (a .1 .0)) (now (a .1 .1 .0)))
+    × ((now (s .1 .1 .0) ≡ roomAfterBy registerOf (known (a .0)) (now (a .1 .0)) (now (a .1 .1 .0)))
+    × ((now (s .1 .0) ≡ now (a .1 .0)) × Bytes (now (a .1 .0))))
 read-says κs a r s p = p

@@ -5,16 +5,20 @@
 mod reader;
 
 ghost use mathlib.Core.Path.{_≡_};
+ghost use Rattle.bits.specs.Bits.{Bytes};
 ghost use Rattle.satellites.specs.Satellites.{known};
 ghost use Rattle.frames.specs.Reading.{reading, roomAfter};
 use frames::Reading;
 use satellites::Known;
 use satellites::Satellite;
 
-// Reads a frame that this satellite sent. The values fill the room's first places; later places stay.
+// Reads a frame that this satellite sent. The values fill the room's first places; later places stay, and so does the frame. The last
+// promise says what a lent slice of bytes is; writing an accepted frame's values gives the frame again because of it.
 pub fn read(satellite: u32, frame: &[u8], room: &mut [u32]) -> Reading
     ensures { λ r. ⌜ r ≡ reading (known satellite) (now (frame .entry)) (now (room .entry)) ⌝ }
     ensures { λ _. ⌜ now (room .exit) ≡ roomAfter (known satellite) (now (frame .entry)) (now (room .entry)) ⌝ }
+    ensures { λ _. ⌜ now (frame .exit) ≡ now (frame .entry) ⌝ }
+    ensures { λ _. ⌜ Bytes (now (frame .entry)) ⌝ }
 {
     match Satellite::from_number(satellite) {
         Known::Is(named) => reader::read(named, frame, room),

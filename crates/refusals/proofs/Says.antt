@@ -1,13 +1,15 @@
 -- A test, as a boolean, and the statement that it is true of.
 -- Assumes nothing.
-use Prim.{⊥}
 use Prim.Native.Nat.{ℕ, _≤_, _<_}
-use mathlib.Core.Path.{_≡_, refl}
-use mathlib.Core.Bool.{Bool, true, false, false≢true, not, _&&_, _||_}
-use mathlib.Core.List.{List}
-use lib.Dec.{eqb, ltb, leb}
+use mathlib.Core.Path.{_≡_, refl, sym, _∙_}
+use mathlib.Core.Logic.{inl, inr}
+use mathlib.Core.Bool.{Bool, true, false, false≢true, not, _&&_, _||_, cond}
+use mathlib.Core.List.{List, [], _∷_, _++_}
+use lib.Dec.{T, eqb, ltb, leb, ltb→lt}
 use borrow.Author.Tests.{eqb-true, eq-eqb, ltb-true, lt-ltb, leb-true, le-leb}
-use Rattle.refusals.specs.Tests.{same, Iff}
+use mir.Facts.{and-yes}
+use native.Mathlib.Omega.{arith}
+use Rattle.refusals.specs.Tests.{Test, refusal, same, Iff, Said, says, Mean, Answered, AllSaid}
 use Rattle.refusals.proofs.Tests.{same-equal, equal-same}
 
 pub below : (a b : ℕ) → Iff (ltb a b) (a < b)
@@ -39,5 +41,48 @@ itself b = (λ e. e, λ e. e)
 pub always : Iff true (Unit {0})
 always = (λ e. tt {0}, λ u. refl)
 
-pub never : Iff false ⊥
-never = (λ e. false≢true e, λ u. absurd u)
+-- ---- the number that is answered, by the statements of its tests
+
+pub answered : (ts : List Test) (said : List Said) → Mean ts said → Answered (refusal ts) said
+unfolding refusal
+answered [] [] m = refl
+answered [] (more ∷ said) m = absurd m
+answered (t ∷ ts) [] m = absurd m
+answered (t ∷ ts) (says k statement ∷ said) m = go (t .holds) (m .0 .1) (answered ts said (m .1))
+  where
+    go : (b : Bool) → Iff b statement → Answered (refusal ts) said → Answered (cond b (refusal ts) (t .number)) (says k statement ∷ said)
+    go true iff rest = inl (iff .0 refl, rest)
+    go false iff rest = inr (λ h. false≢true (iff .1 h), m .0 .0)
+
+-- there is one such number
+pub answered-once : (said : List Said) (m n : ℕ) → Answered m said → Answered n said → m ≡ n
+answered-once [] m n p q = p ∙ sym q
+answered-once (says k statement ∷ said) m n (inl p) (inl q) = answered-once said m n (p .1) (q .1)
+answered-once (says k statement ∷ said) m n (inl p) (inr q) = absurd (q .0 (p .0))
+answered-once (says k statement ∷ said) m n (inr p) (inl q) = absurd (p .0 (q .0))
+answered-once (says k statement ∷ said) m n (inr p) (inr q) = p .1 ∙ sym (q .1)
+
+-- where all hold, it is 0
+pub all-answered : (said : List Said) → AllSaid said → Answered 0 said
+all-answered [] all = refl
+all-answered (says k statement ∷ said) all = inl (all .0, all-answered said (all .1))
+
+-- and where it is 0, all hold: every test has another number
+abbrev othersThanZero : List Said → Bool
+othersThanZero [] = true
+othersThanZero (says k statement ∷ said) = ltb 0 k && othersThanZero said
+
+pub all-said : (said : List Said) → T (othersThanZero said) → Answered 0 said → AllSaid said
+all-said [] some a = tt {0}
+all-said (says k statement ∷ said) some (inl a) = (a .0, all-said said (and-yes (ltb 0 k) (othersThanZero said) some .1) (a .1))
+all-said (says k statement ∷ said) some (inr a) =
+    absurd (omega (arith, a .1, ltb→lt 0 k (and-yes (ltb 0 k) (othersThanZero said) some .0)))
+
+-- all of two lists hold where all of each do
+pub part-said : (xs ys : List Said) → AllSaid (xs ++ ys) → AllSaid xs × AllSaid ys
+part-said [] ys all = (tt {0}, all)
+part-said (says k statement ∷ xs) ys all = let rest = part-said xs ys (all .1) in ((all .0, rest .0), rest .1)
+
+pub join-said : (xs ys : List Said) → AllSaid xs → AllSaid ys → AllSaid (xs ++ ys)
+join-said [] ys all more = more
+join-said (says k statement ∷ xs) ys all more = (all .0, join-said xs ys (all .1) more)

@@ -11,7 +11,7 @@ use mir.Facts.{and-yes}
 use lib.Dec.{T, eqb, ltb, ltb→lt}
 use lib.ListN.{length, getD}
 use borrow.Author.Tests.{eqb-true, eqb-false, eq-eqb}
-use Rattle.refusals.specs.Tests.{Test, test, refusal, holding, FirstFails, AllHold, same}
+use Rattle.refusals.specs.Tests.{Test, test, refusal, holding, same}
 
 -- ---- one test after the other
 
@@ -35,8 +35,12 @@ numbered (t ∷ ts) = ltb 0 (t .number) && numbered ts
 abbrev pub Numbered : List Test → Type 0
 Numbered ts = T (numbered ts)
 
+-- all of them hold
+abbrev AllHold : List Test → Type 0
+AllHold ts = (i : ℕ) → i < length ts → getD ts i (test 0 true) .holds ≡ true
+
 -- where 0 is answered, all tests hold
-pub all-hold : (ts : List Test) → Numbered ts → refusal ts ≡ 0 → AllHold ts
+all-hold : (ts : List Test) → Numbered ts → refusal ts ≡ 0 → AllHold ts
 unfolding refusal numbered
 all-hold [] n e i h = absurd (not-suc-le-zero h)
 all-hold (t ∷ ts) n e i h = go (t .holds) refl e i h (all-hold ts (and-yes (ltb 0 (t .number)) (numbered ts) n .1))
@@ -47,11 +51,6 @@ all-hold (t ∷ ts) n e i h = go (t .holds) refl e i h (all-hold ts (and-yes (lt
     go true f e (suc i) h rest = rest e i (le-of-suc-le-suc h)
     go false f e i h rest =
         absurd (omega (arith, e, ltb→lt 0 (t .number) (and-yes (ltb 0 (t .number)) (numbered ts) n .0)))
-
-pub hold-all : (ts : List Test) → AllHold ts → refusal ts ≡ 0
-unfolding refusal
-hold-all [] all = refl
-hold-all (t ∷ ts) all = rw (all 0 (omega arith)) (hold-all ts (λ i h. all (suc i) (omega arith)))
 
 -- each of them by its number
 each-holds : (ts : List Test) → AllHold ts → (k : ℕ) → holding k ts ≡ true
@@ -93,44 +92,7 @@ ahead-held ts us e = go (eqb (refusal ts) 0) refl
     go true f = eqb-true (refusal ts) 0 f
     go false f = sym (behind-failed ts us (eqb-false (refusal ts) 0 f)) ∙ e
 
--- ---- the number that is answered is that of the first test that fails
-
-ahead-of : (t : Test) (ts : List Test) (k : ℕ) → t .holds ≡ true → (rest : FirstFails k ts) → (i : ℕ) → i < suc (rest .place)
-    → getD (t ∷ ts) i (test 0 true) .holds ≡ true
-ahead-of t ts k f rest zero h = f
-ahead-of t ts k f rest (suc i) h = rest .ahead i (le-of-suc-le-suc h)
-
-pub first-fails : (ts : List Test) (k : ℕ) → refusal ts ≡ k → k ≢ 0 → FirstFails k ts
-unfolding refusal
-first-fails [] k e some = absurd (some (sym e))
-first-fails (t ∷ ts) k e some = go (t .holds) refl e (λ rest. first-fails ts k rest some)
-  where
-    later : t .holds ≡ true → FirstFails k ts → FirstFails k (t ∷ ts)
-    later f rest =
-        record {
-          place = suc (rest .place);
-          inside = omega (arith, rest .inside);
-          numbered = rest .numbered;
-          fails = rest .fails;
-          ahead = ahead-of t ts k f rest;
-        }
-
-    go : (b : Bool) → t .holds ≡ b → cond b (refusal ts) (t .number) ≡ k → (refusal ts ≡ k → FirstFails k ts) → FirstFails k (t ∷ ts)
-    go true f e rest = later f (rest e)
-    go false f e rest = record { place = 0; inside = omega arith; numbered = e; fails = f; ahead = λ i h. absurd (not-suc-le-zero h) }
-
-at-place : (ts : List Test) (p : ℕ) → p < length ts → ((i : ℕ) → i < p → getD ts i (test 0 true) .holds ≡ true)
-    → getD ts p (test 0 true) .holds ≡ false → refusal ts ≡ getD ts p (test 0 true) .number
-unfolding refusal
-at-place [] p h ahead f = absurd (not-suc-le-zero h)
-at-place (t ∷ ts) zero h ahead f = rw f
-at-place (t ∷ ts) (suc p) h ahead f =
-    rw (ahead 0 (omega arith)) (at-place ts p (le-of-suc-le-suc h) (λ i l. ahead (suc i) (omega arith)) f)
-
-pub fails-first : (ts : List Test) (k : ℕ) → FirstFails k ts → refusal ts ≡ k
-fails-first ts k f = at-place ts (f .place) (f .inside) (f .ahead) (f .fails) ∙ f .numbered
-
--- ---- and that test fails, where no two have one number
+-- ---- the test whose number is answered fails, where no two have one number
 
 -- none has number k
 unfoldable pub lacks : ℕ → List Test → Bool

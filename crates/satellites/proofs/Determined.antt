@@ -15,7 +15,7 @@ pub count-determined : (κs a r r′ s s′ : _) → count.Post κs a r s → co
 count-determined κs a r r′ s s′ p q = p ∙ sym q
 
 pub from-number-determined : (κs a r r′ s s′ : _) → from-number.Post κs a r s → from-number.Post κs a r′ s′ → r ≡ r′
-from-number-determined κs a r r′ s s′ p q = p ∙ sym q
+from-number-determined κs a r r′ s s′ p q = p .0 ∙ sym (q .0)
 
 pub number-determined : (κs a r r′ s s′ : _) → number.Post κs a r s → number.Post κs a r′ s′ → r ≡ r′
 number-determined κs a r r′ s s′ p q = p ∙ sym q

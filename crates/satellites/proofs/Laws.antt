@@ -4,13 +4,14 @@ use Prim.Native.Nat.{ℕ, zero, suc, _≤_, _<_}
 use native.Mathlib.Omega.{arith}
 use mathlib.Core.Path.{_≡_, refl, sym, _∙_, ap, subst}
 use mathlib.Core.List.{map}
+use borrow.Author.Tests.{lt-leb}
 use lib.Dec.{lit≤}
 use lib.ListN.{length, List·getD-eq-default}
 use Rattle.satellites.specs.declared.Satellite.{Satellite}
 use Rattle.satellites.specs.declared.Satellite.the-variants.{HadesD, HadesIcm, MariaG, Unne1, HadesR, Unne1b, HadesSa}
 use Rattle.satellites.specs.declared.Known.{Known}
 use Rattle.satellites.specs.declared.Known.the-variants.{Is, Unknown}
-use Rattle.satellites.specs.Satellites.{numberOf, addressOf, seven, known, trainingOf, typeByteAt}
+use Rattle.satellites.specs.Satellites.{numberOf, addressOf, seven, known, valuesIn, valuesOf, trainingOf, typeByteAt}
 
 -- the satellite that its number names is itself
 pub known-number : (s : Satellite) → known (numberOf s) ≡ Is s
@@ -98,3 +99,16 @@ known-below (suc (suc (suc (suc zero)))) h = (HadesR, refl)
 known-below (suc (suc (suc (suc (suc zero))))) h = (Unne1b, refl)
 known-below (suc (suc (suc (suc (suc (suc zero)))))) h = (HadesSa, refl)
 known-below (suc (suc (suc (suc (suc (suc (suc n))))))) h = absurd (omega arith)
+
+-- an answer's values are those of the number that was asked about
+pub values-known : (n : ℕ) → valuesIn (known n) ≡ valuesOf n
+values-known zero = refl
+values-known (suc zero) = refl
+values-known (suc (suc zero)) = refl
+values-known (suc (suc (suc zero))) = refl
+values-known (suc (suc (suc (suc zero)))) = refl
+values-known (suc (suc (suc (suc (suc zero))))) = refl
+values-known (suc (suc (suc (suc (suc (suc zero)))))) = refl
+values-known (suc (suc (suc (suc (suc (suc (suc n))))))) =
+    let m = suc (suc (suc (suc (suc (suc (suc n)))))) in
+    rw (lt-leb m 6 (omega arith))

@@ -1,2 +1,4 @@
 pub mod Laws
+pub mod Paper
+pub mod Contracts
 pub mod Determined

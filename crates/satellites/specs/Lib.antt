@@ -1,1 +1,2 @@
 pub mod Satellites
+pub mod Paper

@@ -3,6 +3,7 @@ use Prim.Native.Nat.{ℕ, _+_}
 use mathlib.Core.Bool.{Bool, true, false, cond}
 use mathlib.Core.List.{List, [], _∷_, map}
 use lib.ListN.{getD}
+use lib.Dec.{leb}
 use Rattle.satellites.specs.declared.Satellite.{Satellite}
 use Rattle.satellites.specs.declared.Satellite.the-variants.{HadesD, HadesIcm, MariaG, Unne1, HadesR, Unne1b, HadesSa}
 use Rattle.satellites.specs.declared.Known.{Known}
@@ -25,6 +26,20 @@ seven = HadesD ∷ HadesIcm ∷ MariaG ∷ Unne1 ∷ HadesR ∷ Unne1b ∷ Hades
 -- the satellite of a number; every number above 6 is unknown
 abbrev pub known : ℕ → Known
 known n = getD (map Is seven) n Unknown
+
+-- the paper's number and values: that of a refusal, or 0, and the satellite's number, one or none
+pub record Values : Type 0 where
+  pub refusal : ℕ
+  pub numbers : List ℕ
+
+-- of each case of an answer; 1 is "satellite number above 6" (01, "What is refused, and in which order"; FORMAT 7)
+abbrev pub valuesIn : Known → Values
+valuesIn (Is s) = record { refusal = 0; numbers = numberOf s ∷ [] }
+valuesIn Unknown = record { refusal = 1; numbers = [] }
+
+-- and of a number: it is its satellite's up to 6
+abbrev pub valuesOf : ℕ → Values
+valuesOf n = record { refusal = cond (leb n 6) 0 1; numbers = cond (leb n 6) (n ∷ []) [] }
 
 -- "Addresses: 8, 2, B, C, D, C, 3 (hexadecimal) for satellites 0 to 6"
 abbrev pub addressOf : Satellite → ℕ

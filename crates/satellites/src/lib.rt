@@ -4,7 +4,7 @@
 // two owners.
 ghost use mathlib.Core.Path.{_≡_};
 ghost use lib.ListN.{length};
-ghost use Rattle.satellites.specs.Satellites.{seven, known, numberOf, addressOf, trainingOf, sizeByteOf, typeByteAt};
+ghost use Rattle.satellites.specs.Satellites.{seven, known, valuesIn, valuesOf, numberOf, addressOf, trainingOf, sizeByteOf, typeByteAt};
 
 pub enum Satellite {
     HadesD,
@@ -41,6 +41,7 @@ impl Satellite {
     // The satellite of that number. The number is not cut down first: 259 is not 3.
     pub fn from_number(number: u32) -> Known
         ensures { λ r. ⌜ r ≡ known number ⌝ }
+        ensures { λ r. ⌜ valuesIn r ≡ valuesOf number ⌝ }
     {
         match number {
             0 => Known::Is(Satellite::HadesD),

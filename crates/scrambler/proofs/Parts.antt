@@ -13,7 +13,7 @@ use lib.ListN.{length, take, length-append, length-take, length-reverse}
 use lib.Seq.{getD-take, ext-getD}
 use Rattle.bits.specs.Bits.{_⊞_, number, bitsOf, packed, Bytes}
 use Rattle.bits.proofs.Numbers.{bits-of}
-use Rattle.bits.proofs.Bytes.{length-bitsOf, length-packed, bitsOf-append, packed-bitsOf, bitsOf-packed, packed-append, packed-bytes}
+use Rattle.bits.proofs.Bytes.{length-bitsOf, length-packed, bitsOf-append, bitsOf-packed, packed-append, packed-bytes, same-bytes}
 use Rattle.scrambler.specs.declared.Direction.{Direction}
 use Rattle.scrambler.specs.Scrambler.{Register, through, sentAfter, remembered, allowed}
 use Rattle.scrambler.specs.Scrambler.{partThrough, registerThrough, partAnswer, registerAnswer}
@@ -62,14 +62,6 @@ module _ (way : Direction) (r : Register) where
 
   long : (xs : List ℕ) → r .far ≤ length (sent xs)
   long xs = rw (length-sentAfter way (r .near) (r .far) start (bitsOf xs), length-remembered (r .far) (r .sent)) (omega arith)
-
--- the other direction gives the bytes back
-pub part-inverse : (way : Direction) (r : Register) (xs : List ℕ) → Bytes xs → partThrough (opposite way) r (partThrough way r xs) ≡ xs
-part-inverse way r xs b =
-    ap₂ packed (length-part way r xs)
-    (ap (through (opposite way) (r .near) (r .far) (start way r)) (bits-part way r xs)
-    ∙ inverse way (r .near) (r .far) (start way r) (bitsOf xs))
-    ∙ packed-bitsOf xs b
 
 -- ---- in two parts
 
@@ -160,6 +152,15 @@ answer-difference way r xs ys e = by (allowed r)
     by true = part-difference way r xs ys e
     by false = refl
 
+-- the bits that are left depend on the bits alone
+pub answer-bits : (way : Direction) (r : Register) (xs ys : List ℕ) → bitsOf xs ≡ bitsOf ys
+    → bitsOf (partAnswer way r xs) ≡ bitsOf (partAnswer way r ys)
+answer-bits way r xs ys e = by (allowed r)
+  where
+    by : (ok : Bool) → bitsOf (cond ok (partThrough way r xs) xs) ≡ bitsOf (cond ok (partThrough way r ys) ys)
+    by true = bits-part way r xs ∙ ap (through way (r .near) (r .far) (start way r)) e ∙ sym (bits-part way r ys)
+    by false = e
+
 pub bytes-answer : (way : Direction) (r : Register) (xs : List ℕ) → Bytes xs → Bytes (partAnswer way r xs)
 bytes-answer way r xs b = by (allowed r)
   where
@@ -167,12 +168,24 @@ bytes-answer way r xs b = by (allowed r)
     by true = bytes-part way r xs
     by false = b
 
-pub answer-inverse : (way : Direction) (r : Register) (xs : List ℕ) → Bytes xs → partAnswer (opposite way) r (partAnswer way r xs) ≡ xs
-answer-inverse way r xs b = by (allowed r)
+-- the other direction gives the bits back
+pub bits-inverse : (way : Direction) (r : Register) (xs : List ℕ)
+    → bitsOf (partAnswer (opposite way) r (partAnswer way r xs)) ≡ bitsOf xs
+bits-inverse way r xs = by (allowed r)
   where
-    by : (ok : Bool) → cond ok (partThrough (opposite way) r (cond ok (partThrough way r xs) xs)) (cond ok (partThrough way r xs) xs) ≡ xs
-    by true = part-inverse way r xs b
+    by : (ok : Bool)
+        → bitsOf (cond ok (partThrough (opposite way) r (cond ok (partThrough way r xs) xs)) (cond ok (partThrough way r xs) xs)) ≡ bitsOf xs
+    by true =
+        bits-part (opposite way) r (partThrough way r xs)
+        ∙ ap (through (opposite way) (r .near) (r .far) (start way r)) (bits-part way r xs)
+        ∙ inverse way (r .near) (r .far) (start way r) (bitsOf xs)
     by false = refl
+
+-- and so the bytes
+pub answer-inverse : (way : Direction) (r : Register) (xs : List ℕ) → Bytes xs → partAnswer (opposite way) r (partAnswer way r xs) ≡ xs
+answer-inverse way r xs b =
+    same-bytes (partAnswer (opposite way) r (partAnswer way r xs)) xs
+    (bytes-answer (opposite way) r (partAnswer way r xs) (bytes-answer way r xs b)) b (bits-inverse way r xs)
 
 pub answer-append : (way : Direction) (r : Register) (xs ys : List ℕ)
     → partAnswer way r (xs ++ ys) ≡ partAnswer way r xs ++ partAnswer way (registerAnswer way r xs) ys

@@ -22,13 +22,15 @@ use Rattle.tolimbar.proofs.tolimbar_summary.Reads as summary
 pub read-says : (κs a r s : _) → read.Post κs a r s
     → let told = readingBy registerOf (known (a .0)) (now (a .1 .0)) (now (a .1 .1 .0)) in
     (r ≡ record { refusal = told .refusal; ty = told .ty; count = told .count })
-    × (now (s .1 .1 .0) ≡ roomAfterBy registerOf (known (a .0)) (now (a .1 .0)) (now (a .1 .1 .0)))
+    × ((now (s .1 .1 .0) ≡ roomAfterBy registerOf (known (a .0)) (now (a .1 .0)) (now (a .1 .1 .0)))
+    × (now (s .1 .0) ≡ now (a .1 .0)))
 read-says κs a r s p = p
 
 pub write-says : (κs a r s : _) → write.Post κs a r s
     → let told = writing (known (a .0)) (a .1 .0) (now (a .1 .1 .0)) (now (a .1 .1 .1 .0)) in
     (r ≡ record { refusal = told .refusal; answer = told .answer })
-    × (now (s .1 .1 .1 .0) ≡ outputAfterBy registerOf (known (a .0)) (a .1 .0) (now (a .1 .1 .0)) (now (a .1 .1 .1 .0)))
+    × ((now (s .1 .1 .1 .0) ≡ outputAfterBy registerOf (known (a .0)) (a .1 .0) (now (a .1 .1 .0)) (now (a .1 .1 .1 .0)))
+    × (now (s .1 .1 .0) ≡ now (a .1 .1 .0)))
 write-says κs a r s p = p
 
 pub edit-says : (κs a r s : _) → edit.Post κs a r s
@@ -44,5 +46,6 @@ temperature-says κs a r s p = p
 pub summary-says : (κs a r s : _) → summary.Post κs a r s
     → let day = dayOf (now (a .0)) in
     (r ≡ record { refusal = day .refusal; place = day .place })
-    × ((now (s .1 .0) ≡ day .summary .coldest ∷ day .summary .warmest ∷ []) × (now (s .1 .1 .0) ≡ day .summary .count ∷ []))
+    × ((now (s .1 .0) ≡ day .summary .coldest ∷ day .summary .warmest ∷ [])
+    × ((now (s .1 .1 .0) ≡ day .summary .count ∷ []) × (now (s .0) ≡ now (a .0))))
 summary-says κs a r s p = p

@@ -11,12 +11,12 @@ use Rattle.tolimbar.proofs.tolimbar_temperature.Reads as temperature
 use Rattle.tolimbar.proofs.tolimbar_summary.Reads as summary
 
 pub read-determined : (κs a r r′ s s′ : _) → read.Post κs a r s → read.Post κs a r′ s′
-    → (r ≡ r′) × (now (s .1 .1 .0) ≡ now (s′ .1 .1 .0))
-read-determined κs a r r′ s s′ p q = (p .0 ∙ sym (q .0), p .1 ∙ sym (q .1))
+    → (r ≡ r′) × ((now (s .1 .0) ≡ now (s′ .1 .0)) × (now (s .1 .1 .0) ≡ now (s′ .1 .1 .0)))
+read-determined κs a r r′ s s′ p q = (p .0 ∙ sym (q .0), (p .1 .1 ∙ sym (q .1 .1), p .1 .0 ∙ sym (q .1 .0)))
 
 pub write-determined : (κs a r r′ s s′ : _) → write.Post κs a r s → write.Post κs a r′ s′
-    → (r ≡ r′) × (now (s .1 .1 .1 .0) ≡ now (s′ .1 .1 .1 .0))
-write-determined κs a r r′ s s′ p q = (p .0 ∙ sym (q .0), p .1 ∙ sym (q .1))
+    → (r ≡ r′) × ((now (s .1 .1 .0) ≡ now (s′ .1 .1 .0)) × (now (s .1 .1 .1 .0) ≡ now (s′ .1 .1 .1 .0)))
+write-determined κs a r r′ s s′ p q = (p .0 ∙ sym (q .0), (p .1 .1 ∙ sym (q .1 .1), p .1 .0 ∙ sym (q .1 .0)))
 
 pub edit-determined : (κs a r r′ s s′ : _) → edit.Post κs a r s → edit.Post κs a r′ s′
     → (r ≡ r′) × (now (s .1 .0) ≡ now (s′ .1 .0))
@@ -27,8 +27,9 @@ pub temperature-determined : (κs a r r′ s s′ : _) → temperature.Post κs 
 temperature-determined κs a r r′ s s′ p q = (p .0 ∙ sym (q .0), p .1 ∙ sym (q .1))
 
 pub summary-determined : (κs a r r′ s s′ : _) → summary.Post κs a r s → summary.Post κs a r′ s′
-    → (r ≡ r′) × ((now (s .1 .0) ≡ now (s′ .1 .0)) × (now (s .1 .1 .0) ≡ now (s′ .1 .1 .0)))
-summary-determined κs a r r′ s s′ p q = (p .0 ∙ sym (q .0), (p .1 .0 ∙ sym (q .1 .0), p .1 .1 ∙ sym (q .1 .1)))
+    → (r ≡ r′) × ((now (s .0) ≡ now (s′ .0)) × ((now (s .1 .0) ≡ now (s′ .1 .0)) × (now (s .1 .1 .0) ≡ now (s′ .1 .1 .0))))
+summary-determined κs a r r′ s s′ p q =
+    (p .0 ∙ sym (q .0), (p .1 .1 .1 ∙ sym (q .1 .1 .1), (p .1 .0 ∙ sym (q .1 .0), p .1 .1 .0 ∙ sym (q .1 .1 .0))))
 
 pub read-asks-nothing : (κs a : _) → read.Pre κs a
 read-asks-nothing κs a = tt

@@ -55,6 +55,7 @@ pub struct Day {
 pub extern "C" fn tolimbar_read(satellite: u32, frame: &[u8], room: &mut [u32]) -> Reading
     ensures { λ r. ⌜ r ≡ readingInC (reading (known satellite) (now (frame .entry)) (now (room .entry))) ⌝ }
     ensures { λ _. ⌜ now (room .exit) ≡ roomAfter (known satellite) (now (frame .entry)) (now (room .entry)) ⌝ }
+    ensures { λ _. ⌜ now (frame .exit) ≡ now (frame .entry) ⌝ }
 {
     let told = reading::read(satellite, frame, room);
     let count = told.count as u32;
@@ -75,6 +76,7 @@ pub extern "C" fn tolimbar_write(
 ) -> Writing
     ensures { λ r. ⌜ r ≡ writingInC (writing (known satellite) ty (now (values .entry)) (now (output .entry))) ⌝ }
     ensures { λ _. ⌜ now (output .exit) ≡ outputAfter (known satellite) ty (now (values .entry)) (now (output .entry)) ⌝ }
+    ensures { λ _. ⌜ now (values .exit) ≡ now (values .entry) ⌝ }
 {
     let told = writing::write(satellite, ty, values, output);
     let answer = told.answer as u32;
@@ -144,6 +146,7 @@ pub extern "C" fn tolimbar_summary(
     ensures { λ r. ⌜ r ≡ dayInC (dayOf (now (codes .entry))) ⌝ }
     ensures { λ _. ⌜ now (degrees .exit) ≡ coldestWarmest (dayOf (now (codes .entry)) .summary) ⌝ }
     ensures { λ _. ⌜ now (counts .exit) ≡ countIn (dayOf (now (codes .entry)) .summary) ⌝ }
+    ensures { λ _. ⌜ now (codes .exit) ≡ now (codes .entry) ⌝ }
 {
     let day = temperatures::summary_of(codes);
     let summary = day.summary;

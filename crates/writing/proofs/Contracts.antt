@@ -11,5 +11,6 @@ use Rattle.writing.proofs.write.Reads as write
 
 pub write-says : (κs a r s : _) → write.Post κs a r s
     → (r ≡ writing (known (a .0)) (a .1 .0) (now (a .1 .1 .0)) (now (a .1 .1 .1 .0)))
-    × (now (s .1 .1 .1 .0) ≡ outputAfterBy registerOf (known (a .0)) (a .1 .0) (now (a .1 .1 .0)) (now (a .1 .1 .1 .0)))
+    × ((now (s .1 .1 .1 .0) ≡ outputAfterBy registerOf (known (a .0)) (a .1 .0) (now (a .1 .1 .0)) (now (a .1 .1 .1 .0)))
+    × (now (s .1 .1 .0) ≡ now (a .1 .1 .0)))
 write-says κs a r s p = p

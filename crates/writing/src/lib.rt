@@ -11,10 +11,12 @@ use frames::Writing;
 use satellites::Known;
 use satellites::Satellite;
 
-// Writes the frame of this satellite's type that carries these values. It fills the output's first bytes; later bytes stay.
+// Writes the frame of this satellite's type that carries these values. It fills the output's first bytes; later bytes stay,
+// and so do the values.
 pub fn write(satellite: u32, ty: u32, values: &[u32], output: &mut [u8]) -> Writing
     ensures { λ r. ⌜ r ≡ writing (known satellite) ty (now (values .entry)) (now (output .entry)) ⌝ }
     ensures { λ _. ⌜ now (output .exit) ≡ outputAfter (known satellite) ty (now (values .entry)) (now (output .entry)) ⌝ }
+    ensures { λ _. ⌜ now (values .exit) ≡ now (values .entry) ⌝ }
 {
     match Satellite::from_number(satellite) {
         Known::Is(named) => writer::write(named, ty, values, output),

@@ -1,6 +1,6 @@
 -- `bits::read_field` meets its contract: the field is that of the bytes it touches.
 -- Assumes nothing.
-use mathlib.Core.Path.{sym, _∙_}
+use mathlib.Core.Path.{refl, sym, _∙_}
 use lib.ListN.{length}
 use denote.Ref.{now}
 use Rattle.bits.specs.Located.{Touches}
@@ -37,13 +37,13 @@ returns c =
     let a = c .before .before .before .before .before .args in
     let l = c .before .before .before .locate in
     let inside = sym (is-inside (a .at) (a .width) (now (a .bytes)) (l .result) (l .ensures)) ∙ c .before .before .if1 .taken in
-    c .cut .ensures ∙ field-touched (a .at) (a .width) (now (a .bytes)) (l .result) (touches (c .before .before)) ∙ rw inside
+    (c .cut .ensures ∙ field-touched (a .at) (a .width) (now (a .bytes)) (l .result) (touches (c .before .before)) ∙ rw inside, refl)
 
 returns-2 : tie.Need-returns-2
 returns-2 c =
     let a = c .before .before .before .args in
     let l = c .before .locate in
-    rw (sym (is-inside (a .at) (a .width) (now (a .bytes)) (l .result) (l .ensures)) ∙ c .if1 .left)
+    (rw (sym (is-inside (a .at) (a .width) (now (a .bytes)) (l .result) (l .ensures)) ∙ c .if1 .left), refl)
 
 pub read-field-spec : {M : Type 1} → statement M
 read-field-spec =

@@ -1,7 +1,7 @@
 -- `bodies::fitting` meets its contract. The invariant: as many fields fit as were walked, and as many more as fit of those
 -- that are left.
 -- Assumes nothing.
-use mathlib.Core.Path.{_≡_, sym, _∙_}
+use mathlib.Core.Path.{_≡_, refl, sym, _∙_}
 use mathlib.Core.Bool.{true, false}
 use Prim.Native.Nat.{_+_, _-_, _^_, _≤_}
 use native.Mathlib.Omega.{arith}
@@ -36,7 +36,7 @@ returns c =
     let a = at .before .before .before .args in
     let l = a .layout in
     let k = at .loop .k in
-    fitting-all (l .fields) k (l .widths) (now (a .values)) (no-width (l .fields) k (l .widths) (omega arith)) ∙ at .loop .inv .1 .1
+    (fitting-all (l .fields) k (l .widths) (now (a .values)) (no-width (l .fields) k (l .widths) (omega arith)) ∙ at .loop .inv .1 .1, refl)
 
 value-at-requires : tie.Need-value-at-requires Inv-loop μ-loop
 value-at-requires c κs = search needs
@@ -59,7 +59,7 @@ returns-2 c =
     let f = c .before .fits2 in
     let no : ltb (getD (now (a .values)) k 0) (2 ^ getD (l .widths) k 0) ≡ false =
     rw (sym (c .before .before .value-at .ensures)) (sym (f .ensures) ∙ not-true (f .result) (c .if3 .taken)) in
-    fitting-no-more (l .fields) k (l .widths) (now (a .values)) (omega arith) (omega arith) no ∙ at .loop .inv .1 .1
+    (fitting-no-more (l .fields) k (l .widths) (now (a .values)) (omega arith) (omega arith) no ∙ at .loop .inv .1 .1, refl)
 
 add-k : tie.Need-add-k Inv-loop μ-loop
 add-k c = search needs
@@ -86,7 +86,7 @@ returns-3 c =
     let a = at .before .before .before .args in
     let l = a .layout in
     let k = at .loop .k in
-    fitting-all (l .fields) k (l .widths) (now (a .values)) (no-field (l .fields) k (l .widths) (omega arith)) ∙ at .loop .inv .1 .1
+    (fitting-all (l .fields) k (l .widths) (now (a .values)) (no-field (l .fields) k (l .widths) (omega arith)) ∙ at .loop .inv .1 .1, refl)
 
 pub fitting-spec : {M : Type 1} → statement M
 fitting-spec =

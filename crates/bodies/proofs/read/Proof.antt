@@ -43,8 +43,9 @@ returns c =
     let a = at .before .before .before .before .args in
     let l = a .layout in
     let k = at .loop .k in
-    filled-all (at .loop .at) k (l .fields) (l .widths) (now (a .body)) (at .loop .room) (no-width (l .fields) k (l .widths) (omega arith))
-    ∙ at .loop .inv .1 .1 .1 .1 .1
+    let all =
+    filled-all (at .loop .at) k (l .fields) (l .widths) (now (a .body)) (at .loop .room) (no-width (l .fields) k (l .widths) (omega arith)) in
+    (all ∙ at .loop .inv .1 .1 .1 .1 .1, refl)
 
 same-length-2 : tie.Need-same-length-2 Inv-loop μ-loop
 same-length-2 c = c .before .before .before .before .loop .inv .1 .1 .1 .1 .0
@@ -55,8 +56,8 @@ returns-2 c =
     let a = at .before .before .before .before .args in
     let l = a .layout in
     let k = at .loop .k in
-    sym (filled-full (valuesFrom (at .loop .at) (drop k (widthsIn l)) (now (a .body))) (at .loop .room) k (omega arith))
-    ∙ at .loop .inv .1 .1 .1 .1 .1
+    let full = filled-full (valuesFrom (at .loop .at) (drop k (widthsIn l)) (now (a .body))) (at .loop .room) k (omega arith) in
+    (sym full ∙ at .loop .inv .1 .1 .1 .1 .1, refl)
 
 array-read-width : tie.Need-array-read-width Inv-loop μ-loop
 array-read-width c = search needs
@@ -102,7 +103,7 @@ loop-again c =
         omega (arith, small .fits),
         (
           at .loop .inv .1 .1 .0,
-          (rw same there, (same ∙ at .loop .inv .1 .1 .1 .1 .0, rw (c .read-field .ensures) next)),
+          (rw same there, (same ∙ at .loop .inv .1 .1 .1 .1 .0, rw (c .read-field .ensures .0) next)),
         ),
       ),
     )
@@ -116,8 +117,9 @@ returns-3 c =
     let a = at .before .before .before .before .args in
     let l = a .layout in
     let k = at .loop .k in
-    filled-all (at .loop .at) k (l .fields) (l .widths) (now (a .body)) (at .loop .room) (no-field (l .fields) k (l .widths) (omega arith))
-    ∙ at .loop .inv .1 .1 .1 .1 .1
+    let all =
+    filled-all (at .loop .at) k (l .fields) (l .widths) (now (a .body)) (at .loop .room) (no-field (l .fields) k (l .widths) (omega arith)) in
+    (all ∙ at .loop .inv .1 .1 .1 .1 .1, refl)
 
 pub read-spec : {M : Type 1} → statement M
 read-spec =

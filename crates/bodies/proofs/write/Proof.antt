@@ -39,8 +39,9 @@ returns c =
     let a = at .before .before .before .before .args in
     let l = a .layout in
     let k = at .loop .k in
-    laid-all (at .loop .at) k (l .fields) (l .widths) (now (a .values)) (at .loop .body) (no-width (l .fields) k (l .widths) (omega arith))
-    ∙ at .loop .inv .1 .1 .1 .1
+    let all =
+    laid-all (at .loop .at) k (l .fields) (l .widths) (now (a .values)) (at .loop .body) (no-width (l .fields) k (l .widths) (omega arith)) in
+    (all ∙ at .loop .inv .1 .1 .1 .1, refl)
 
 array-read-width : tie.Need-array-read-width Inv-loop μ-loop
 array-read-width c = search needs
@@ -99,8 +100,9 @@ returns-2 c =
     let a = at .before .before .before .before .args in
     let l = a .layout in
     let k = at .loop .k in
-    laid-all (at .loop .at) k (l .fields) (l .widths) (now (a .values)) (at .loop .body) (no-field (l .fields) k (l .widths) (omega arith))
-    ∙ at .loop .inv .1 .1 .1 .1
+    let all =
+    laid-all (at .loop .at) k (l .fields) (l .widths) (now (a .values)) (at .loop .body) (no-field (l .fields) k (l .widths) (omega arith)) in
+    (all ∙ at .loop .inv .1 .1 .1 .1, refl)
 
 pub write-spec : {M : Type 1} → statement M
 write-spec =

@@ -1,6 +1,6 @@
 -- `checksum::of` meets its contract. The invariant: the bytes that are left lead from the register to the answer.
 -- Assumes nothing.
-use mathlib.Core.Path.{_≡_, sym, _∙_}
+use mathlib.Core.Path.{_≡_, refl, sym, _∙_}
 use Prim.Native.Nat.{_-_, _≤_, _<_}
 use native.Mathlib.Nat.{mod-eq-of-lt}
 use native.Mathlib.Omega.{arith}
@@ -55,7 +55,7 @@ returns c =
     let s = now (c .before .before .before .args .bytes) in
     let r = bits 16 (l .register) in
     let e : number (after r (bitsOf (drop (l .i) s))) ≡ number r = rw (drop-of-length-le s (c .loop-test .left)) in
-    sym (number-bits 16 (l .register) ∙ mod-eq-of-lt (l .inv .1 .0)) ∙ sym e ∙ l .inv .1 .1
+    (sym (number-bits 16 (l .register) ∙ mod-eq-of-lt (l .inv .1 .0)) ∙ sym e ∙ l .inv .1 .1, refl)
 
 pub of-spec : {M : Type 1} → statement M
 of-spec =

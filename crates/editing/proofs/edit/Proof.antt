@@ -1,5 +1,6 @@
 -- `editing::edit` meets its contract.
 -- Assumes nothing.
+use native.Mathlib.Omega.{arith}
 use mathlib.Core.Path.{sym, _∙_, ap}
 use denote.Ref.{now}
 use Rattle.satellites.specs.declared.Known.{Known}
@@ -34,18 +35,24 @@ returns c =
     let named = called .before .before .before in
     let asked = named .before .before in
     let a = asked .before .before .args in
-    let its = sym (named .named .given .1) ∙ asked .from-number .ensures in (
+    let its = sym (named .named .given .1) ∙ asked .from-number .ensures .0 in (
       called .edit .ensures .0 ∙ ap (λ (s : Known). editing s (now (a .frame)) (a .field) (a .value)) its,
-      called .edit .ensures .1 ∙ ap (λ (s : Known). frameAfter s (now (a .frame)) (a .field) (a .value)) its,
+      (
+        called .edit .ensures .1 ∙ ap (λ (s : Known). frameAfter s (now (a .frame)) (a .field) (a .value)) its,
+        λ i. omega (arith, asked .before .slice-known .given i .fits),
+      ),
     )
 
 returns-2 : tie.Need-returns-2
 returns-2 c =
     let a = c .before .before .before .before .before .args in
-    let its = sym (c .before .enum-told .given .1) ∙ c .before .before .before .from-number .ensures in
+    let its = sym (c .before .enum-told .given .1) ∙ c .before .before .before .from-number .ensures .0 in
     let told = unknown-refused registerOf (now (a .frame)) (a .field) (a .value) in (
       c .refused .ensures ∙ told .0 ∙ ap (λ (s : Known). editing s (now (a .frame)) (a .field) (a .value)) its,
-      told .1 ∙ ap (λ (s : Known). frameAfter s (now (a .frame)) (a .field) (a .value)) its,
+      (
+        told .1 ∙ ap (λ (s : Known). frameAfter s (now (a .frame)) (a .field) (a .value)) its,
+        λ i. omega (arith, c .before .before .before .before .slice-known .given i .fits),
+      ),
     )
 
 pub edit-spec : {M : Type 1} → statement M

@@ -1,6 +1,7 @@
 -- `fronts::type_sent` meets its contract.
 -- Assumes nothing.
 use native.Mathlib.Omega.{arith}
+use mathlib.Core.Path.{refl}
 use Prim.Native.Nat.{_≤_}
 use lib.ListN.{length, drop-of-length-le}
 use denote.Ref.{now}
@@ -17,7 +18,7 @@ returns : tie.Need-returns
 returns c =
     let a = c .before .before .before .args in
     let past : length (now (a .frame)) ≤ typeByteAt (a .satellite) = omega (arith, c .before .type-byte-at .ensures) in
-    rw (drop-of-length-le (now (a .frame)) {i = typeByteAt (a .satellite)} past)
+    (rw (drop-of-length-le (now (a .frame)) {i = typeByteAt (a .satellite)} past), refl)
 
 shared-slice-read-result : tie.Need-shared-slice-read-result
 shared-slice-read-result c = search needs
@@ -29,7 +30,7 @@ cast-result c =
 returns-2 : tie.Need-returns-2
 returns-2 c =
     let a = c .before .before .before .before .args in
-    rw (first-at (typeByteAt (a .satellite)) (now (a .frame)), c .before .before .type-byte-at .ensures)
+    (rw (first-at (typeByteAt (a .satellite)) (now (a .frame)), c .before .before .type-byte-at .ensures), refl)
 
 pub type-sent-spec : {M : Type 1} → statement M
 type-sent-spec =

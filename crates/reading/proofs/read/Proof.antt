@@ -1,6 +1,7 @@
 -- `reading::read` meets its contract.
 -- Assumes nothing.
-use mathlib.Core.Path.{sym, _∙_, ap}
+use mathlib.Core.Path.{refl, sym, _∙_, ap}
+use native.Mathlib.Omega.{arith}
 use denote.Ref.{now}
 use Rattle.satellites.specs.declared.Known.{Known}
 use Rattle.frames.specs.Registers.{registerOf}
@@ -34,18 +35,24 @@ returns c =
     let named = called .before .before .before in
     let asked = named .before .before in
     let a = asked .before .before .before .args in
-    let its = sym (named .named .given .1) ∙ asked .from-number .ensures in (
+    let its = sym (named .named .given .1) ∙ asked .from-number .ensures .0 in (
       called .read .ensures .0 ∙ ap (λ (k : Known). reading k (now (a .frame)) (now (a .room))) its,
-      called .read .ensures .1 ∙ ap (λ (k : Known). roomAfter k (now (a .frame)) (now (a .room))) its,
+      (
+        called .read .ensures .1 ∙ ap (λ (k : Known). roomAfter k (now (a .frame)) (now (a .room))) its,
+        (refl, λ i. omega (arith, asked .before .before .shared-slice-known .given i .fits)),
+      ),
     )
 
 returns-2 : tie.Need-returns-2
 returns-2 c =
     let a = c .before .before .before .before .before .before .args in
-    let its = sym (c .before .enum-told .given .1) ∙ c .before .before .before .from-number .ensures in
+    let its = sym (c .before .enum-told .given .1) ∙ c .before .before .before .from-number .ensures .0 in
     let told = unknown-refused registerOf (now (a .frame)) (now (a .room)) in (
       c .refused .ensures ∙ told .0 ∙ ap (λ (k : Known). reading k (now (a .frame)) (now (a .room))) its,
-      told .1 ∙ ap (λ (k : Known). roomAfter k (now (a .frame)) (now (a .room))) its,
+      (
+        told .1 ∙ ap (λ (k : Known). roomAfter k (now (a .frame)) (now (a .room))) its,
+        (refl, λ i. omega (arith, c .before .before .before .before .before .shared-slice-known .given i .fits)),
+      ),
     )
 
 pub read-spec : {M : Type 1} → statement M

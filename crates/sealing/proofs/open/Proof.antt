@@ -81,8 +81,8 @@ returns c =
     let field = c .before .before .before in
     let pass = field .before .before .before .before .before in
     let law = part-opened (register pass) (part pass) (front pass) (end pass) (at pass) (pass .open-front .ensures) in
-    let sent = field .read-field .ensures ∙ sum-sent (register pass) (part pass) (front pass) (end pass) (at pass) (pass .open-front .ensures) in
-    let computed = c .of .ensures ∙ sum-computed (register pass) (part pass) (front pass) (end pass) (at pass) (pass .open-front .ensures) in
+    let sent = field .read-field .ensures .0 ∙ sum-sent (register pass) (part pass) (front pass) (end pass) (at pass) (pass .open-front .ensures) in
+    let computed = c .of .ensures .0 ∙ sum-computed (register pass) (part pass) (front pass) (end pass) (at pass) (pass .open-front .ensures) in
     (ap₂ (λ (sent computed : ℕ). record { sent = sent; computed = computed }) sent computed, law)
 
 pub open-spec : {M : Type 1} → statement M

@@ -101,7 +101,7 @@ returns-2 c =
     let at = c .before .before in
     let sum = summed at .of in
     let small : Fits w16 (sum .result) = search needs in
-    sealed-is (register (start at)) (part at) (body at) (sum .result) (enough at) (small .fits) (sum .ensures) (body-is at)
+    sealed-is (register (start at)) (part at) (body at) (sum .result) (enough at) (small .fits) (sum .ensures .0) (body-is at)
     ∙ sym (seals (register (start at)) (part at) (enough at))
 
 same-length : tie.Need-same-length

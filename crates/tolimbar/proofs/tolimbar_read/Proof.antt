@@ -1,7 +1,7 @@
 -- `tolimbar::tolimbar_read` meets its contract.
 -- Assumes nothing.
 use native.Mathlib.Omega.{arith}
-use mathlib.Core.Path.{ap}
+use mathlib.Core.Path.{refl, ap}
 use borrow.Author.Needs.{needs}
 use Rattle.frames.proofs.Small.{count-small}
 use Rattle.tolimbar.specs.Answers.{readingInC}
@@ -20,7 +20,7 @@ same-length c = search needs
 returns : tie.Need-returns
 returns c =
     let told = c .before .before .before .read .ensures in
-    (ap readingInC (told .0), told .1)
+    (ap readingInC (told .0), (told .1 .0, refl))
 
 pub tolimbar-read-spec : {M : Type 1} → statement M
 tolimbar-read-spec = tie.close (tie.spec read-requires cast-count same-length returns)

@@ -1,7 +1,7 @@
 -- `tolimbar::tolimbar_summary` meets its contract.
 -- Assumes nothing.
 use native.Mathlib.Omega.{arith}
-use mathlib.Core.Path.{ap}
+use mathlib.Core.Path.{refl, ap}
 use denote.Ref.{now}
 use borrow.Author.Needs.{needs}
 use Rattle.temperatures.specs.declared.Day.{Day}
@@ -16,13 +16,13 @@ summary-of-requires c κs = search needs
 cast-place : tie.Need-cast-place
 cast-place c =
     let called = c .before .before .before .before in
-    let told = ap (λ (d : Day). d .place) (called .summary-of .ensures) in
+    let told = ap (λ (d : Day). d .place) (called .summary-of .ensures .0) in
     omega (arith, told, place-small (now (called .before .before .args .codes)))
 
 returns : tie.Need-returns
 returns c =
-    let told = c .before .before .before .before .summary-of .ensures in
-    (ap dayInC told, (ap (λ (d : Day). coldestWarmest (d .summary)) told, ap (λ (d : Day). countIn (d .summary)) told))
+    let told = c .before .before .before .before .summary-of .ensures .0 in
+    (ap dayInC told, (ap (λ (d : Day). coldestWarmest (d .summary)) told, (ap (λ (d : Day). countIn (d .summary)) told, refl)))
 
 pub tolimbar-summary-spec : {M : Type 1} → statement M
 tolimbar-summary-spec = tie.close (tie.spec summary-of-requires cast-place returns)

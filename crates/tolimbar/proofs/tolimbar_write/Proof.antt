@@ -1,7 +1,7 @@
 -- `tolimbar::tolimbar_write` meets its contract.
 -- Assumes nothing.
 use native.Mathlib.Omega.{arith}
-use mathlib.Core.Path.{ap}
+use mathlib.Core.Path.{refl, ap}
 use borrow.Author.Needs.{needs}
 use Rattle.frames.proofs.Small.{written-small}
 use Rattle.tolimbar.specs.Answers.{writingInC}
@@ -20,7 +20,7 @@ same-length c = search needs
 returns : tie.Need-returns
 returns c =
     let told = c .before .before .before .write .ensures in
-    (ap writingInC (told .0), told .1)
+    (ap writingInC (told .0), (told .1 .0, refl))
 
 pub tolimbar-write-spec : {M : Type 1} → statement M
 tolimbar-write-spec = tie.close (tie.spec write-requires cast-answer same-length returns)

@@ -1,6 +1,6 @@
 -- `writing::write` meets its contract.
 -- Assumes nothing.
-use mathlib.Core.Path.{sym, _∙_, ap}
+use mathlib.Core.Path.{refl, sym, _∙_, ap}
 use denote.Ref.{now}
 use Rattle.satellites.specs.declared.Known.{Known}
 use Rattle.frames.specs.Registers.{registerOf}
@@ -34,18 +34,18 @@ returns c =
     let named = called .before .before .before in
     let asked = named .before .before in
     let a = asked .before .before .before .args in
-    let its = sym (named .named .given .1) ∙ asked .from-number .ensures in (
+    let its = sym (named .named .given .1) ∙ asked .from-number .ensures .0 in (
       called .write .ensures .0 ∙ ap (λ (k : Known). writing k (a .ty) (now (a .values)) (now (a .output))) its,
-      called .write .ensures .1 ∙ ap (λ (k : Known). outputAfter k (a .ty) (now (a .values)) (now (a .output))) its,
+      (called .write .ensures .1 ∙ ap (λ (k : Known). outputAfter k (a .ty) (now (a .values)) (now (a .output))) its, refl),
     )
 
 returns-2 : tie.Need-returns-2
 returns-2 c =
     let a = c .before .before .before .before .before .before .args in
-    let its = sym (c .before .enum-told .given .1) ∙ c .before .before .before .from-number .ensures in
+    let its = sym (c .before .enum-told .given .1) ∙ c .before .before .before .from-number .ensures .0 in
     let told = unknown-refused registerOf (a .ty) (now (a .values)) (now (a .output)) in (
       c .refused .ensures ∙ told .0 ∙ ap (λ (k : Known). writing k (a .ty) (now (a .values)) (now (a .output))) its,
-      told .1 ∙ ap (λ (k : Known). outputAfter k (a .ty) (now (a .values)) (now (a .output))) its,
+      (told .1 ∙ ap (λ (k : Known). outputAfter k (a .ty) (now (a .values)) (now (a .output))) its, refl),
     )
 
 pub write-spec : {M : Type 1} → statement M

@@ -63,13 +63,13 @@ returns : tie.Need-returns
 returns c =
     let at = c .before .before in
     let number = at .whole .result .refusal in
-    let its = sym (ap (λ (f : Front). f .refusal) (at .whole .ensures)) in
+    let its = sym (ap (λ (f : Front). f .refusal) (at .whole .ensures .0)) in
     let told = whole-refuses registerOf (s at) (frame at) (k at) (v at) number its (c .before .if1 .taken) in
     (c .refused .ensures ∙ told .0, told .1)
 
 -- no test of the whole frame fails
 passes : (c : tie.Else1) → refusal (wholeTests (s (c .before)) (frame (c .before))) ≡ 0
-passes c = sym (ap (λ (f : Front). f .refusal) (c .before .whole .ensures)) ∙ c .if1 .left
+passes c = sym (ap (λ (f : Front). f .refusal) (c .before .whole .ensures .0)) ∙ c .if1 .left
 
 type-byte-at-requires : tie.Need-type-byte-at-requires
 type-byte-at-requires c κs = search needs
@@ -119,7 +119,7 @@ leaves : (c : tie.After-change)
     Leaves (registerOf (s at)) (layout at) (part at) (k at) (v at) (c .change .result) (c .change .last .1 .1 .1 .1 .1 .1 .0)
 leaves c =
     let at = by-whole (by-place c) .before in
-    let its = ap (λ (f : Front). f .layout) (at .whole .ensures) in
+    let its = ap (λ (f : Front). f .layout) (at .whole .ensures .0) in
     let part-is = lent (by-place c) in (
       c .change .ensures .0
           ∙ ap₂ (λ (l : Layout) (p : List ℕ). refusal (partTests (from NEAR FAR START) l p (k at) (v at))) its part-is
@@ -164,7 +164,7 @@ returns-3 c =
     let past = by-whole (by-place done) in
     let at = past .before in
     let left = done .change .last .1 .1 .1 .1 .1 .1 .0 in
-    let its = ap (λ (f : Front). f .layout .frame) (at .whole .ensures)
+    let its = ap (λ (f : Front). f .layout .frame) (at .whole .ensures .0)
     ∙ told-length (s at) (typeOf (s at) (frame at)) (is-carried (s at) (frame at) (passes past)) in
     let told = part-accepts registerOf (s at) (frame at) (k at) (v at) (passes past) (done .change .result) left (leaves done)
     (c .if2 .left) in

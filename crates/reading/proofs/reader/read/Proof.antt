@@ -42,7 +42,7 @@ module _ (c : tie.After-whole) where
   part = fromTypeByte s frame
 
   counts : c .whole .result .layout .fields ≡ length (entryOf s type .widths)
-  counts = ap (λ (f : Front). f .layout .fields) (c .whole .ensures)
+  counts = ap (λ (f : Front). f .layout .fields) (c .whole .ensures .0)
 
 -- the points that the later ones come by: the frame was whole, there was room
 abbrev by-whole : tie.Else2 → tie.After-whole
@@ -61,13 +61,13 @@ returns : tie.Need-returns
 returns c =
     let at = c .before .before in
     let number = at .whole .result .refusal in
-    let its = sym (ap (λ (f : Front). f .refusal) (at .whole .ensures)) in
+    let its = sym (ap (λ (f : Front). f .refusal) (at .whole .ensures .0)) in
     let told = whole-refuses registerOf (s at) (frame at) (room at) number its (c .before .if1 .taken) in
     (c .refused .ensures ∙ told .0, told .1)
 
 -- no test of the whole frame fails
 passes : (c : tie.Else1) → refusal (wholeTests (s (c .before)) (frame (c .before))) ≡ 0
-passes c = sym (ap (λ (f : Front). f .refusal) (c .before .whole .ensures)) ∙ c .if1 .left
+passes c = sym (ap (λ (f : Front). f .refusal) (c .before .whole .ensures .0)) ∙ c .if1 .left
 
 refused-requires-2 : tie.Need-refused-requires-2
 refused-requires-2 c κs = search needs
@@ -140,7 +140,7 @@ left c {right} e =
     let at = by-whole (by-room c) in
     c .tell .ensures .1
     ∙ ap₂ (λ (l : Layout) (body : List ℕ). toldTo (c .tell .result) l body (room at))
-    (ap (λ (f : Front). f .layout) (at .whole .ensures))
+    (ap (λ (f : Front). f .layout) (at .whole .ensures .0))
     (ap₂ clearBody (handed (s at)) (sent (c .before .before .before)))
     ∙ ap (λ (b : Bool). toldTo b (layoutOf (s at) (type at)) (clearBody (registerOf (s at)) (part at)) (room at)) e
 
@@ -151,7 +151,7 @@ returns-3 c =
     let at = by-whole past in
     let right = checked end ∙ c .if3 .taken in
     let told = accepts registerOf (s at) (frame at) (room at) (passed past) (enough past) right in (
-      ap₂ readAs (ap (λ (f : Front). f .ty) (at .whole .ensures)) (counts at) ∙ told .0,
+      ap₂ readAs (ap (λ (f : Front). f .ty) (at .whole .ensures .0)) (counts at) ∙ told .0,
       left end (c .if3 .taken) ∙ told .1,
     )
 

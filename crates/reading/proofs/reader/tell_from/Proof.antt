@@ -90,7 +90,7 @@ returns c =
     let a = start told .args in
     let rest = drop (length (sent told) - 0) (copy told) in (
       sym (eq-eqb (told .open .result .sent) (told .open .result .computed) (taken .if1 .taken)) ∙ right told,
-      read .read .ensures
+      read .read .ensures .0
           ∙ ap (λ (l : List ℕ). filled (valuesFrom 0 (widthsIn (a .layout)) l) (now (a .room)))
           (ap (λ (l : List ℕ). take (length (sent told) - 2 - 1) (drop 1 (l ++ rest))) (is-open told)
           ∙ body-told (register told) (sent told) rest (start told .pre .0)),

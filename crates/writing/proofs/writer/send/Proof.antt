@@ -53,12 +53,12 @@ module _ (c : tie.After-write) where
   body = c .write .last .1 .1 .0
 
   as-long : length body ≡ length (lent part)
-  as-long = ap length (c .write .ensures) ∙ length-laid 0 (widthsIn (start .args .layout)) (now (start .args .values)) (lent part)
+  as-long = ap length (c .write .ensures .0) ∙ length-laid 0 (widthsIn (start .args .layout)) (now (start .args .values)) (lent part)
 
   -- it lies in the part, behind another first byte
   body-is : bodyIn (set (put part body) 0 (start .args .typed)) ≡ laid (bodyIn part)
   body-is =
-      body-put part body (start .args .typed) (start .pre) as-long ∙ c .write .ensures ∙ ap laid (lent-body part (start .pre))
+      body-put part body (start .args .typed) (start .pre) as-long ∙ c .write .ensures .0 ∙ ap laid (lent-body part (start .pre))
 
   -- and the part is as long as it was
   enough : 3 ≤ length (set (put part body) 0 (start .args .typed))

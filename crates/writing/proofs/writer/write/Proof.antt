@@ -91,7 +91,7 @@ fitting-requires c κs = search needs
 fits : (c : tie.After-fitting) → let at = by-type (c .before) .before in c .fitting .result ≡ fitting (widths at) (values at)
 fits c =
     let at = by-type (c .before) .before in
-    c .fitting .ensures
+    c .fitting .ensures .0
     ∙ ap (λ (ws : List ℕ). fitting ws (values at)) (ap widthsIn (at .of .ensures) ∙ widths-in (s at) (ty at))
 
 refused-requires-3 : tie.Need-refused-requires-3
