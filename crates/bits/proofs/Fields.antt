@@ -4,10 +4,12 @@
 use mathlib.Core.Path.{_≡_, refl, sym, ap, ap₂, _∙_}
 use mathlib.Core.Bool.{Bool, true, false, _&&_, cond}
 use mathlib.Core.List.{List, [], _∷_, _++_, append-assoc}
+use Prim.{⊥}
 use Prim.Native.Nat.{ℕ, zero, suc, _+_, _*_, _^_, _%_, _≤_}
 use native.Mathlib.Nat.{add-assoc}
 use native.Mathlib.Omega.{arith}
-use borrow.Author.Tests.{le-leb}
+use lib.Dec.{leb}
+use borrow.Author.Tests.{le-leb, leb-true}
 use lib.ListN.{length, take, drop, length-take, length-drop, take-append-drop}
 use lib.Seq.{take-at, drop-at, take-append-add, drop-append-add, take-append-le, drop-append-le, take-take, drop-drop}
 use Rattle.bits.specs.Bits.{bits, number, bitsOf, packed, field, changed, replaced, isField, fieldAnswer, replacedAnswer, Bytes}
@@ -54,6 +56,16 @@ module _ (at w v : ℕ) (s : List ℕ) (h : at + w ≤ 8 * length s) where
 pub is-field : (at w : ℕ) (s : List ℕ) → w ≤ 32 → at + w ≤ 8 * length s → isField at w s ≡ true
 unfolding isField
 is-field at w s n h = ap₂ _&&_ (le-leb w 32 n) (le-leb (at + w) (8 * length s) h)
+
+-- there is no other
+pub no-field : (at w : ℕ) (s : List ℕ) → (w ≤ 32 → at + w ≤ 8 * length s → ⊥) → isField at w s ≡ false
+unfolding isField
+no-field at w s none = by (leb w 32) (leb (at + w) (8 * length s)) refl refl
+  where
+    by : (narrow inside : Bool) → leb w 32 ≡ narrow → leb (at + w) (8 * length s) ≡ inside → narrow && inside ≡ false
+    by true true n h = absurd (none (leb-true w 32 n) (leb-true (at + w) (8 * length s) h))
+    by true false n h = refl
+    by false inside n h = refl
 
 -- replacing keeps the length, for every place and width
 pub length-replaced-answer : (at w v : ℕ) (s : List ℕ) → length (replacedAnswer at w v s) ≡ length s

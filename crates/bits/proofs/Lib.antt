@@ -4,4 +4,5 @@ mod Groups
 pub mod Fields
 pub mod Xor
 pub mod Determined
+pub mod Contracts
 mod Places

@@ -1,4 +1,5 @@
 pub mod Laws
 pub mod Changes
 pub mod Determined
+pub mod Contracts
 mod Walk

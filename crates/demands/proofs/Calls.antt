@@ -158,7 +158,11 @@ module _ {n k v : ℕ} {frame frame′ : List ℕ} {e : Writing} (call : Edit n 
       (by-name n (λ p. whole p frame ++ (summed p frame ∷ fielded p frame k v)) (λ s. editingBy registerOf s frame k v .refusal)
       (λ w. editing-number registerOf (w .satellite) frame k v) (unnamed-number registerOf k v frame frame .1 .1))
 
-  -- of a satellite that is named
+  -- a call that test 1 lets pass names a satellite
+  pub edit-named : e .refusal ≢ 1 → Named n
+  edit-named = passes-name n (e .refusal) (whole (printed n) frame ++ (summed (printed n) frame ∷ fielded (printed n) frame k v)) edit-number
+
+  -- by that satellite it answers and leaves
   module _ (w : Named n) where
     pub edit-answer : editingBy registerOf (Is (w .satellite)) frame k v ≡ e
     edit-answer = ap (λ (s : Known). editingBy registerOf s frame k v) (sym (w .is-known)) ∙ sym (edit-gives .0)

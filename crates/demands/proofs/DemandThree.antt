@@ -1,6 +1,7 @@
 -- Demand 3 holds.
 -- Assumes nothing.
 use Prim.Native.Nat.{ℕ, _+_, _*_, _^_, _≤_, _<_}
+use native.Mathlib.Omega.{arith}
 use mathlib.Core.Path.{_≡_, sym, _∙_, ap, subst}
 use mathlib.Core.List.{List, _++_}
 use lib.ListN.{length, getD, take, drop, set}
@@ -11,6 +12,7 @@ use Rattle.satellites.specs.declared.Known.the-variants.{Is}
 use Rattle.frames.specs.declared.Reading.{Reading}
 use Rattle.frames.specs.declared.Writing.{Writing}
 use Rattle.frames.specs.Registers.{registerOf}
+use Rattle.frames.specs.Frames.{entryIn}
 use Rattle.frames.specs.Reading.{readingBy}
 use Rattle.frames.specs.Writing.{writing, outputAfterBy}
 use Rattle.frames.specs.Editing.{editingBy, frameAfterBy}
@@ -20,7 +22,7 @@ use Rattle.demands.specs.Demands.{printed, Read, Write, Edit, DemandThre
 use Rattle.demands.proofs.Named.{Named}
 use Rattle.demands.proofs.Calls.{read-gives, read-named, read-answer, read-left}
 use Rattle.demands.proofs.Calls.{write-gives}
-use Rattle.demands.proofs.Calls.{edit-answer, edit-left}
+use Rattle.demands.proofs.Calls.{edit-named, edit-answer, edit-left}
 
 -- "Take an accepted frame, one of its fields and a new value that fits", and edit it
 module _ {n k v : ℕ} {frame room frame′ room′ edited′ : List ℕ} {r : Reading} {e : Writing} (c : Read n frame room r frame′ room′)
@@ -85,22 +87,22 @@ module _ {n k : ℕ} {g room g′ room′ h hall h′ hall′ : List ℕ} {r q :
   by-width : (P : ℕ → Type 0) → P (width (printed n)) → P (width (printedOf registerOf (w .satellite)))
   by-width P = subst (λ p. P (width p)) (sym (w .as-printed))
 
-  same-bits-flip : {v v′ : ℕ} {edited′ changed′ : List ℕ} {e f : Writing}
-      → v < 2 ^ width (printed n) → v′ < 2 ^ width (printed n)
+  same-bits-flip : {v u : ℕ} {edited′ changed′ : List ℕ} {e f : Writing}
+      → v < 2 ^ width (printed n) → u < 2 ^ width (printed n)
       → bits (width (printed n)) (getD room′ k 0) ⊞ bits (width (printed n)) v
-      ≡ bits (width (printed n)) (getD hall′ k 0) ⊞ bits (width (printed n)) v′
-      → Edit n g k v e edited′ → Edit n h k v′ f changed′
+      ≡ bits (width (printed n)) (getD hall′ k 0) ⊞ bits (width (printed n)) u
+      → Edit n g k v e edited′ → Edit n h k u f changed′
       → bitsOf g ⊞ bitsOf edited′ ≡ bitsOf h ⊞ bitsOf changed′
-  same-bits-flip {v = v} {v′ = v′} fits fits′ alike x y =
+  same-bits-flip {v = v} {u = u} fits fits′ alike x y =
       let m = width (printedOf registerOf (w .satellite)) in
       let typed : readingBy registerOf (Is (w .satellite)) h hall ≡ record { refusal = 0; ty = r .ty; count = q .count } =
       read-answer d w accepted′ ∙ (λ i. record { refusal = 0; ty = sym same i; count = q .count }) in
       ap (λ (l : List ℕ). bitsOf g ⊞ bitsOf l) (edit-left x w)
       ∙ three.same-bits-flip registerOf (w .satellite) (r .ty) k (r .count) (q .count) g h room hall (read-answer c w accepted) typed inside
-      v v′ (by-width (λ m. v < 2 ^ m) fits) (by-width (λ m. v′ < 2 ^ m) fits′)
+      v u (by-width (λ m. v < 2 ^ m) fits) (by-width (λ m. u < 2 ^ m) fits′)
       (ap (λ (l : List ℕ). bits m (getD l k 0) ⊞ bits m v) (sym (read-left c w))
-      ∙ by-width (λ m. bits m (getD room′ k 0) ⊞ bits m v ≡ bits m (getD hall′ k 0) ⊞ bits m v′) alike
-      ∙ ap (λ (l : List ℕ). bits m (getD l k 0) ⊞ bits m v′) (read-left d w))
+      ∙ by-width (λ m. bits m (getD room′ k 0) ⊞ bits m v ≡ bits m (getD hall′ k 0) ⊞ bits m u) alike
+      ∙ ap (λ (l : List ℕ). bits m (getD l k 0) ⊞ bits m u) (read-left d w))
       ∙ ap (λ (l : List ℕ). bitsOf h ⊞ bitsOf l) (sym (edit-left y w))
 
 edited-same : {n k : ℕ} {frame room frame′ room′ edited′ : List ℕ} {r : Reading} {e : Writing}
@@ -115,10 +117,26 @@ edited-same {k = k} {frame = frame} {room = room} {r = r} c accepted inside d =
       edit-left d w ∙ (λ i. frameAfterBy registerOf (Is s) frame k (getD (left i) k 0)) ∙ same .1,
     )
 
+-- every edit that is accepted, with a room as long as the frame's values
+edited-length : {n k v : ℕ} {frame edited′ : List ℕ} {e : Writing} → Edit n frame k v e edited′ → e .refusal ≡ 0
+    → (e .answer ≡ length frame) × (length edited′ ≡ length frame)
+edited-length {k = k} {v = v} {frame = frame} d accepted =
+    let w = edit-named d (λ one. omega (arith, accepted, one)) in
+    let s = w .satellite in
+    let room = entryIn s frame .widths in
+    let r = readingBy registerOf (Is s) frame room in
+    let only = three.accepted-only registerOf s frame k v (ap (λ (a : Writing). a .refusal) (edit-answer d w) ∙ accepted) room (omega arith) in
+    let read : r ≡ record { refusal = 0; ty = r .ty; count = r .count } = λ i. record { refusal = only .0 i; ty = r .ty; count = r .count } in (
+      ap (λ (a : Writing). a .answer) (sym (edit-answer d w)
+          ∙ three.edit-accepted registerOf s (r .ty) (r .count) frame room read k (only .1 .0) v (only .1 .1)),
+      ap length (edit-left d w) ∙ three.edited-length registerOf s (r .ty) (r .count) frame room read k (only .1 .0) v (only .1 .1),
+    )
+
 pub demand-three : DemandThree
 demand-three =
     record {
       edited = λ c accepted inside fits d. edited c accepted inside fits d;
+      edited-length = λ d accepted. edited-length d accepted;
       edited-afresh = λ c accepted inside fits d written fills. edited-afresh c accepted inside fits d written fills;
       ahead-stays = λ c accepted inside fits d. ahead-stays c accepted inside fits d;
       same-bits-flip = λ c accepted d accepted′ same inside fits fits′ alike x y.

@@ -13,7 +13,7 @@ use satellites::Known;
 use satellites::Satellite;
 
 // Edits one field of a frame that this satellite sent: the frame with that field alone replaced takes the old one's place.
-// The last promise says what a lent slice of bytes is.
+// The last promise says that each element of the frame was a byte.
 pub fn edit(satellite: u32, frame: &mut [u8], field: usize, value: u32) -> Writing
     ensures { λ r. ⌜ r ≡ editing (known satellite) (now (frame .entry)) field value ⌝ }
     ensures { λ _. ⌜ now (frame .exit) ≡ frameAfter (known satellite) (now (frame .entry)) field value ⌝ }

@@ -22,3 +22,4 @@ pub mod DemandThree
 pub mod Codes
 pub mod Temperatures
 pub mod Determined
+pub mod Contracts

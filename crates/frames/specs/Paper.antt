@@ -23,7 +23,7 @@ pub record Printed : Type 0 where
   pub register : Register
   pub entries : List Entry
 
--- what the definitions have of it, with any choice of registers
+-- the same by our definitions, for any choice of registers; the proofs need it, the demands do not
 abbrev pub printedOf : Registers → Satellite → Printed
 printedOf r s =
     record {

@@ -1,7 +1,7 @@
 // What a frame is, and what reading, writing and editing answer (01, "What is refused, and in which order"; FORMAT 3, 7 and 8).
 //
-// The definitions and the demands, as theorems, are in specs/ and proofs/. The code that reads, writes and edits is in the crates
-// above, whose contracts cite these definitions; here are the answers that they give.
+// The definitions, and the laws from which the demands follow, are in specs/ and proofs/. The code that reads, writes and edits is in the
+// crates above, whose contracts cite these definitions; here are the answers that they give.
 ghost use mathlib.Core.Path.{_≡_};
 ghost use Rattle.frames.specs.Reading.{refusedReading};
 ghost use Rattle.frames.specs.Writing.{refusedWriting};

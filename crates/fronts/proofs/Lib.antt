@@ -4,3 +4,4 @@ mod Written
 pub mod Filled
 pub mod Lent
 pub mod Determined
+pub mod Contracts

@@ -13,7 +13,7 @@ use satellites::Known;
 use satellites::Satellite;
 
 // Reads a frame that this satellite sent. The values fill the room's first places; later places stay, and so does the frame. The last
-// promise says what a lent slice of bytes is; writing an accepted frame's values gives the frame again because of it.
+// promise says that each element of the frame is a byte. Without it, writing an accepted frame's values need not give the frame again.
 pub fn read(satellite: u32, frame: &[u8], room: &mut [u32]) -> Reading
     ensures { λ r. ⌜ r ≡ reading (known satellite) (now (frame .entry)) (now (room .entry)) ⌝ }
     ensures { λ _. ⌜ now (room .exit) ≡ roomAfter (known satellite) (now (frame .entry)) (now (room .entry)) ⌝ }

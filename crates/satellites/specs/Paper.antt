@@ -1,5 +1,6 @@
 -- The satellites' constants, typed a second time from 01 ("From antenna order to bytes"; FORMAT 2 and 3), one line for each
--- satellite, in the order of their numbers. No other definition uses them.
+-- satellite, in the order of their numbers. The definitions in Satellites.antt do not use them; the demands do (specs/Demands.antt of
+-- `demands`).
 use Prim.Native.Nat.{ℕ}
 use mathlib.Core.Bool.{Bool, true, false}
 use mathlib.Core.List.{List, [], _∷_}
@@ -32,6 +33,6 @@ rows =
     ∷ constants 0x3 16 true
     ∷ []
 
--- by the satellite's number; above 6 there are none
+-- by the satellite's number; above 6, where test 1 refuses, zeros
 abbrev pub paper : ℕ → Constants
 paper n = getD rows n (constants 0 0 false)

@@ -27,7 +27,7 @@ seven = HadesD ∷ HadesIcm ∷ MariaG ∷ Unne1 ∷ HadesR ∷ Unne1b ∷ Hades
 abbrev pub known : ℕ → Known
 known n = getD (map Is seven) n Unknown
 
--- the paper's number and values: that of a refusal, or 0, and the satellite's number, one or none
+-- an answer in the paper's numbers: the refusal's number or 0, and the satellite's number if there is one
 pub record Values : Type 0 where
   pub refusal : ℕ
   pub numbers : List ℕ
@@ -37,7 +37,7 @@ abbrev pub valuesIn : Known → Values
 valuesIn (Is s) = record { refusal = 0; numbers = numberOf s ∷ [] }
 valuesIn Unknown = record { refusal = 1; numbers = [] }
 
--- and of a number: it is its satellite's up to 6
+-- the same, computed from the number that was asked about
 abbrev pub valuesOf : ℕ → Values
 valuesOf n = record { refusal = cond (leb n 6) 0 1; numbers = cond (leb n 6) (n ∷ []) [] }
 

@@ -4,11 +4,12 @@
 use mathlib.Core.Path.{_≡_, refl, sym, ap, ap₂, _∙_, subst}
 use mathlib.Core.Bool.{Bool, true, false, _&&_, cond}
 use mathlib.Core.List.{List, [], _++_, reverse, reverse-reverse}
+use Prim.{⊥}
 use Prim.Native.Nat.{ℕ, _*_, _≤_, _<_}
 use native.Mathlib.Nat.{le-refl}
 use native.Mathlib.Omega.{arith}
 use lib.Dec.{T, leb, ltb, ltb→lt}
-use mir.Facts.{and-yes}
+use mir.Facts.{and-yes, leb-yes}
 use lib.ListN.{length, take, length-append, length-take, length-reverse}
 use lib.Seq.{getD-take, ext-getD}
 use Rattle.bits.specs.Bits.{_⊞_, number, bitsOf, packed, Bytes}
@@ -118,12 +119,22 @@ module _ (way : Direction) (r : Register) (some : 0 < r .far) (ordered : r .near
 
 -- ---- what the two functions leave, for every register
 
-allowed-distances : (r : Register) → T (allowed r) → (0 < r .far) × (r .near ≤ r .far)
+allowed-distances : (r : Register) → T (allowed r) → (1 ≤ r .near) × ((r .near < r .far) × (r .far ≤ 32))
 unfolding allowed
 allowed-distances r t =
     let p = and-yes (leb 1 (r .near) && ltb (r .near) (r .far)) (leb (r .far) 32) t in
-    let h = ltb→lt (r .near) (r .far) (and-yes (leb 1 (r .near)) (ltb (r .near) (r .far)) (p .0) .1) in
-    (omega arith, omega arith)
+    let q = and-yes (leb 1 (r .near)) (ltb (r .near) (r .far)) (p .0) in
+    (leb-yes (q .0), (ltb→lt (r .near) (r .far) (q .1), leb-yes (p .1)))
+
+-- distances that are not allowed leave the part and the register as they are
+pub not-allowed : (way : Direction) (r : Register) (part : List ℕ) → (1 ≤ r .near → r .near < r .far → r .far ≤ 32 → ⊥)
+    → (partAnswer way r part ≡ part) × (registerAnswer way r part ≡ r)
+not-allowed way r part none = by (allowed r) (allowed-distances r)
+  where
+    by : (ok : Bool) → (T ok → (1 ≤ r .near) × ((r .near < r .far) × (r .far ≤ 32)))
+        → (cond ok (partThrough way r part) part ≡ part) × (cond ok (registerThrough way r part) r ≡ r)
+    by true distances = let d = distances tt in absurd (none (d .0) (d .1 .0) (d .1 .1))
+    by false distances = (refl, refl)
 
 pub length-answer : (way : Direction) (r : Register) (xs : List ℕ) → length (partAnswer way r xs) ≡ length xs
 length-answer way r xs = by (allowed r)
@@ -196,8 +207,8 @@ answer-append way r xs ys = by (allowed r) refl
         → cond ok (partThrough way r (xs ++ ys)) (xs ++ ys)
         ≡ cond ok (partThrough way r xs) xs ++ partAnswer way (cond ok (registerThrough way r xs) r) ys
     by true e =
-        let d = allowed-distances r (subst T (sym e) tt) in
-        rw e (part-append way r (d .0) (d .1) xs ys)
+        let ordered = allowed-distances r (subst T (sym e) tt) .1 .0 in
+        rw e (part-append way r (omega (arith, ordered)) (omega (arith, ordered)) xs ys)
     by false e = rw e
 
 pub register-answer-append : (way : Direction) (r : Register) (xs ys : List ℕ)
@@ -208,6 +219,6 @@ register-answer-append way r xs ys = by (allowed r) refl
     by : (ok : Bool) → allowed r ≡ ok
         → cond ok (registerThrough way r (xs ++ ys)) r ≡ registerAnswer way (cond ok (registerThrough way r xs) r) ys
     by true e =
-        let d = allowed-distances r (subst T (sym e) tt) in
-        rw e (register-append way r (d .0) (d .1) xs ys)
+        let ordered = allowed-distances r (subst T (sym e) tt) .1 .0 in
+        rw e (register-append way r (omega (arith, ordered)) (omega (arith, ordered)) xs ys)
     by false e = rw e

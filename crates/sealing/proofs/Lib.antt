@@ -3,3 +3,4 @@ pub mod Lent
 mod Opening
 mod Sealing
 pub mod Determined
+pub mod Contracts

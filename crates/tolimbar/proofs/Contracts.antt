@@ -5,6 +5,7 @@
 use mathlib.Core.Path.{_≡_}
 use mathlib.Core.List.{[], _∷_}
 use denote.Ref.{now}
+use Rattle.bits.specs.Bits.{Bytes}
 use Rattle.satellites.specs.Satellites.{known}
 use Rattle.frames.specs.Registers.{registerOf}
 use Rattle.frames.specs.Reading.{readingBy, roomAfterBy}
@@ -23,7 +24,7 @@ pub read-says : (κs a r s : _) → read.Post κs a r s
     → let told = readingBy registerOf (known (a .0)) (now (a .1 .0)) (now (a .1 .1 .0)) in
     (r ≡ record { refusal = told .refusal; ty = told .ty; count = told .count })
     × ((now (s .1 .1 .0) ≡ roomAfterBy registerOf (known (a .0)) (now (a .1 .0)) (now (a .1 .1 .0)))
-    × (now (s .1 .0) ≡ now (a .1 .0)))
+    × ((now (s .1 .0) ≡ now (a .1 .0)) × Bytes (now (a .1 .0))))
 read-says κs a r s p = p
 
 pub write-says : (κs a r s : _) → write.Post κs a r s
@@ -36,7 +37,8 @@ write-says κs a r s p = p
 pub edit-says : (κs a r s : _) → edit.Post κs a r s
     → let told = editingBy registerOf (known (a .0)) (now (a .1 .0)) (a .1 .1 .0) (a .1 .1 .1 .0) in
     (r ≡ record { refusal = told .refusal; answer = told .answer })
-    × (now (s .1 .0) ≡ frameAfterBy registerOf (known (a .0)) (now (a .1 .0)) (a .1 .1 .0) (a .1 .1 .1 .0))
+    × ((now (s .1 .0) ≡ frameAfterBy registerOf (known (a .0)) (now (a .1 .0)) (a .1 .1 .0) (a .1 .1 .1 .0))
+    × Bytes (now (a .1 .0)))
 edit-says κs a r s p = p
 
 pub temperature-says : (κs a r s : _) → temperature.Post κs a r s

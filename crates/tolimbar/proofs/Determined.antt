@@ -12,7 +12,7 @@ use Rattle.tolimbar.proofs.tolimbar_summary.Reads as summary
 
 pub read-determined : (κs a r r′ s s′ : _) → read.Post κs a r s → read.Post κs a r′ s′
     → (r ≡ r′) × ((now (s .1 .0) ≡ now (s′ .1 .0)) × (now (s .1 .1 .0) ≡ now (s′ .1 .1 .0)))
-read-determined κs a r r′ s s′ p q = (p .0 ∙ sym (q .0), (p .1 .1 ∙ sym (q .1 .1), p .1 .0 ∙ sym (q .1 .0)))
+read-determined κs a r r′ s s′ p q = (p .0 ∙ sym (q .0), (p .1 .1 .0 ∙ sym (q .1 .1 .0), p .1 .0 ∙ sym (q .1 .0)))
 
 pub write-determined : (κs a r r′ s s′ : _) → write.Post κs a r s → write.Post κs a r′ s′
     → (r ≡ r′) × ((now (s .1 .1 .0) ≡ now (s′ .1 .1 .0)) × (now (s .1 .1 .1 .0) ≡ now (s′ .1 .1 .1 .0)))
@@ -20,7 +20,7 @@ write-determined κs a r r′ s s′ p q = (p .0 ∙ sym (q .0), (p .1 .1 ∙ sy
 
 pub edit-determined : (κs a r r′ s s′ : _) → edit.Post κs a r s → edit.Post κs a r′ s′
     → (r ≡ r′) × (now (s .1 .0) ≡ now (s′ .1 .0))
-edit-determined κs a r r′ s s′ p q = (p .0 ∙ sym (q .0), p .1 ∙ sym (q .1))
+edit-determined κs a r r′ s s′ p q = (p .0 ∙ sym (q .0), p .1 .0 ∙ sym (q .1 .0))
 
 pub temperature-determined : (κs a r r′ s s′ : _) → temperature.Post κs a r s → temperature.Post κs a r′ s′
     → (r ≡ r′) × (now (s .1 .0) ≡ now (s′ .1 .0))

@@ -4,6 +4,7 @@
 // A slice is a pointer and a length there. Numbers have 32 bits. What is answered are integers, in a struct of at most 16 bytes;
 // floats and further counts go into arrays that the caller lends.
 ghost use mathlib.Core.Path.{_≡_};
+ghost use Rattle.bits.specs.Bits.{Bytes};
 ghost use Rattle.satellites.specs.Satellites.{known};
 ghost use Rattle.frames.specs.Reading.{reading, roomAfter};
 ghost use Rattle.frames.specs.Writing.{writing, outputAfter};
@@ -50,12 +51,14 @@ pub struct Day {
     pub place: u32,
 }
 
-// Reads a frame that this satellite sent. The values fill the room's first places; later places stay.
+// Reads a frame that this satellite sent. The values fill the room's first places; later places stay. The last promise says that
+// each element of the frame is a byte.
 #[no_mangle]
 pub extern "C" fn tolimbar_read(satellite: u32, frame: &[u8], room: &mut [u32]) -> Reading
     ensures { λ r. ⌜ r ≡ readingInC (reading (known satellite) (now (frame .entry)) (now (room .entry))) ⌝ }
     ensures { λ _. ⌜ now (room .exit) ≡ roomAfter (known satellite) (now (frame .entry)) (now (room .entry)) ⌝ }
     ensures { λ _. ⌜ now (frame .exit) ≡ now (frame .entry) ⌝ }
+    ensures { λ _. ⌜ Bytes (now (frame .entry)) ⌝ }
 {
     let told = reading::read(satellite, frame, room);
     let count = told.count as u32;
@@ -86,11 +89,13 @@ pub extern "C" fn tolimbar_write(
     }
 }
 
-// Edits one field of a frame that this satellite sent: the frame with that field alone replaced takes the old one's place.
+// Edits one field of a frame that this satellite sent: the frame with that field alone replaced takes the old one's place. The last
+// promise says that each element of the frame was a byte.
 #[no_mangle]
 pub extern "C" fn tolimbar_edit(satellite: u32, frame: &mut [u8], field: u32, value: u32) -> Writing
     ensures { λ r. ⌜ r ≡ writingInC (editing (known satellite) (now (frame .entry)) field value) ⌝ }
     ensures { λ _. ⌜ now (frame .exit) ≡ frameAfter (known satellite) (now (frame .entry)) field value ⌝ }
+    ensures { λ _. ⌜ Bytes (now (frame .entry)) ⌝ }
 {
     let told = editing::edit(satellite, frame, field as usize, value);
     let answer = told.answer as u32;

@@ -25,7 +25,7 @@ same-length c = search needs
 returns : tie.Need-returns
 returns c =
     let told = c .before .before .before .edit .ensures in
-    (ap writingInC (told .0), told .1 .0)
+    (ap writingInC (told .0), told .1)
 
 pub tolimbar-edit-spec : {M : Type 1} → statement M
 tolimbar-edit-spec = tie.close (tie.spec edit-requires cast-answer same-length returns)

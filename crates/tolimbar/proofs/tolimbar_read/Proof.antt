@@ -20,7 +20,7 @@ same-length c = search needs
 returns : tie.Need-returns
 returns c =
     let told = c .before .before .before .read .ensures in
-    (ap readingInC (told .0), (told .1 .0, refl))
+    (ap readingInC (told .0), (told .1 .0, (refl, told .1 .1 .1)))
 
 pub tolimbar-read-spec : {M : Type 1} → statement M
 tolimbar-read-spec = tie.close (tie.spec read-requires cast-count same-length returns)
