@@ -1,5 +1,5 @@
 -- The desk's three demands, in quotes, as statements about the calls `reading::read`, `writing::write` and `editing::edit` themselves, by
--- the text of their contracts. DemandOne.antt, DemandTwo.antt and DemandThree.antt of proofs/ prove them.
+-- the text of their contracts, and of the calls from C. DemandOne.antt, DemandTwo.antt, DemandThree.antt and FromC.antt of proofs/ prove them.
 --
 -- The calls name a satellite by its number n, and `printed n` is what 01 prints of it. Paper.antt of the crate `frames` has the parts of a
 -- frame and what each test says; `Answered` and `AllSaid` are in Tests.antt of `refusals`, `bits`, `bitsOf` and `field` in Bits.antt of
