@@ -1,11 +1,28 @@
-// A call taken apart: what its words stand for.
+// A call taken apart: its name, its numbers, and the bytes or the list at its end.
 ghost use mathlib.Core.Path.{_≡_};
 ghost use Prim.Native.Nat.{_≤_};
 ghost use lib.ListN.{length};
-use words::GREATEST;
-use words::NONE;
+use words::Bytes;
+use words::Number;
 
-// Where `byte` first stands from `at` on; where it does not, the text's end.
+// What a word holds: whether it is what it should be, and how many numbers or bytes there are.
+pub(crate) struct Held {
+    pub right: bool,
+    pub count: usize,
+}
+
+fn right(count: usize) -> Held {
+    Held { right: true, count }
+}
+
+fn wrong() -> Held {
+    Held {
+        right: false,
+        count: 0,
+    }
+}
+
+// The place of the first `byte` from `at` on; where there is none, the text's end.
 pub(crate) fn until(text: &[u8], at: usize, byte: u8) -> usize
     requires { ⌜ at ≤ length (now text) ⌝ }
     ensures { λ r. ⌜ (at ≤ r) × (r ≤ length (now (text .entry))) ⌝ }
@@ -14,78 +31,138 @@ pub(crate) fn until(text: &[u8], at: usize, byte: u8) -> usize
 }
 
 // Whether the first word is `word`, and there are so many words.
-pub(crate) fn is(text: &[u8], word: &[u8], count: usize) -> bool {
-    let span = words::nth(text, 0);
-    let from = span.from;
-    let to = span.to;
-    if check::same(&text[from..to], word) {
-        return words::count(text) == count;
+pub(crate) fn is(call: &[u8], word: &[u8], count: usize) -> bool {
+    if check::same(words::word(call, 0), word) {
+        return words::count(call) == count;
     }
     false
 }
 
-// The number that word n is; NONE where it is none.
-pub(crate) fn number(text: &[u8], n: usize) -> usize {
-    let span = words::nth(text, n);
-    let from = span.from;
-    let to = span.to;
-    words::decimal(&text[from..to])
+// Whether the words behind the name, up to word `end`, are numbers, which then go to `out`.
+pub(crate) fn are_numbers(call: &[u8], end: usize, out: &mut [u32]) -> bool {
+    let mut k = 1;
+    while k < end {
+        if !keep(out, k - 1, words::decimal(words::word(call, k))) {
+            return false;
+        }
+        k += 1;
+    }
+    true
 }
 
-// The numbers of a list go to the start of `out`. The answer is how many they are; NONE where it is no list, or too long.
-pub(crate) fn numbers(text: &[u8], n: usize, out: &mut [u32]) -> usize {
-    let span = words::nth(text, n);
-    let from = span.from;
-    let to = span.to;
-    list(&text[from..to], out)
-}
-
-// The same with bytes.
-pub(crate) fn bytes(text: &[u8], n: usize, out: &mut [u8]) -> usize {
-    let span = words::nth(text, n);
-    let from = span.from;
-    let to = span.to;
-    frame(&text[from..to], out)
-}
-
-// Numbers with commas between them; `-` holds none.
-fn list(text: &[u8], out: &mut [u32]) -> usize {
+// Numbers with commas between them go to the start of `out`; `-` holds none.
+pub(crate) fn list(text: &[u8], out: &mut [u32]) -> Held {
     if check::same(text, b"-") {
-        return 0;
+        return right(0);
     }
     let mut from = 0;
     let mut count = 0;
     while count < out.len() {
         let to = until(text, from, b',');
         if !keep(out, count, words::decimal(&text[from..to])) {
-            return NONE;
+            return wrong();
         }
         count += 1;
         if to == text.len() {
-            return count;
+            return right(count);
         }
         from = to + 1;
     }
-    NONE
+    wrong()
 }
 
-// Whether it is a number, which then goes to place k.
-fn keep(out: &mut [u32], k: usize, value: usize) -> bool
+// Whether it is a number and there is a place k, where it then goes.
+fn keep(out: &mut [u32], k: usize, number: Number) -> bool
     ensures { λ _. ⌜ length (now (out .exit)) ≡ length (now (out .entry)) ⌝ }
 {
-    if GREATEST < value {
-        return false;
+    match number {
+        Number::Is(value) => put(out, k, value),
+        Number::None => false,
     }
-    if k < out.len() {
-        out[k] = value as u32;
-    }
-    true
 }
 
-// Pairs of hexadecimal digits; `-` holds none.
-fn frame(text: &[u8], out: &mut [u8]) -> usize {
-    if check::same(text, b"-") {
-        return 0;
+fn put(out: &mut [u32], k: usize, value: u32) -> bool
+    ensures { λ _. ⌜ length (now (out .exit)) ≡ length (now (out .entry)) ⌝ }
+{
+    if k < out.len() {
+        out[k] = value;
+        return true;
     }
-    words::pairs(text, out)
+    false
+}
+
+// Pieces of bytes with commas between them go to the start of `out`; `-` holds none.
+pub(crate) fn bytes(text: &[u8], out: &mut [u8]) -> Held {
+    if check::same(text, b"-") {
+        return right(0);
+    }
+    let mut all = right(0);
+    let mut from = 0;
+    while from <= text.len() {
+        let to = until(text, from, b',');
+        all = with_piece(&text[from..to], out, all.count);
+        if !all.right {
+            return all;
+        }
+        from = to + 1;
+    }
+    all
+}
+
+// Bytes, or so many times the same pairs, behind the first `count` bytes.
+fn with_piece(text: &[u8], out: &mut [u8], count: usize) -> Held
+    ensures { λ _. ⌜ length (now (out .exit)) ≡ length (now (out .entry)) ⌝ }
+{
+    let star = until(text, 0, b'*');
+    if star == text.len() {
+        return with_pairs(text, out, count);
+    }
+    match words::decimal(&text[0..star]) {
+        Number::Is(times) => with_copies(&text[star + 1..], times, out, count),
+        Number::None => wrong(),
+    }
+}
+
+fn with_copies(text: &[u8], times: u32, out: &mut [u8], count: usize) -> Held
+    ensures { λ _. ⌜ length (now (out .exit)) ≡ length (now (out .entry)) ⌝ }
+{
+    if times == 0 {
+        return wrong();
+    }
+    let mut all = right(count);
+    for _ in 0..times {
+        all = with_pairs(text, out, all.count);
+        if !all.right {
+            return all;
+        }
+    }
+    all
+}
+
+fn with_pairs(text: &[u8], out: &mut [u8], count: usize) -> Held
+    ensures { λ _. ⌜ length (now (out .exit)) ≡ length (now (out .entry)) ⌝ }
+{
+    if text.len() == 0 {
+        return wrong();
+    }
+    if out.len() < count {
+        return wrong();
+    }
+    match words::pairs(text, &mut out[count..]) {
+        Bytes::Are(n) => more(count, n),
+        Bytes::NotDigits => wrong(),
+        Bytes::Odd => wrong(),
+        Bytes::TooMany => wrong(),
+    }
+}
+
+// No buffer has so many bytes.
+fn more(count: usize, n: usize) -> Held {
+    if 0xFFFF_FFFF < count {
+        return wrong();
+    }
+    if 0xFFFF_FFFF < n {
+        return wrong();
+    }
+    right(count + n)
 }

@@ -1,6 +1,6 @@
 // The calls about temperatures, and the way from a frame to its ten.
-use crate::call;
 use crate::calls;
+use crate::leaves::TEMPERATURES;
 use crate::page;
 use satellites::Known;
 use satellites::Satellite;
@@ -8,30 +8,12 @@ use temperatures::Answer;
 use temperatures::Day;
 use temperatures::Reading;
 use temperatures::SENSORS;
-use words::GREATEST;
 
-// The type whose fields are temperatures alone, but for a clock.
-const TEMPERATURES: u32 = 2;
-
-pub(crate) fn ask(call: &[u8], page: &mut [u8], numbers: &mut [u32], bytes: &mut [u8]) -> usize {
-    if call::is(call, b"temperature", 2) {
-        return temperature(call, page);
-    }
-    if call::is(call, b"summary", 2) {
-        return summary(call, page, numbers);
-    }
-    if call::is(call, b"day", 3) {
-        return day(call, page, numbers, bytes);
-    }
-    calls::not_understood(page)
-}
-
-fn temperature(call: &[u8], page: &mut [u8]) -> usize {
-    let code = call::number(call, 1);
-    if GREATEST < code {
+pub(crate) fn temperature(page: &mut [u8], codes: &[u32]) -> usize {
+    if codes.len() != 1 {
         return calls::not_understood(page);
     }
-    match temperatures::reading_of(code as u32) {
+    match temperatures::reading_of(codes[0]) {
         Answer::Is(reading) => put_reading(page, reading),
         Answer::Refused => put_told(page, refusals::VALUE, b" 0", 0.0),
     }
@@ -51,12 +33,8 @@ fn put_told(page: &mut [u8], number: u32, kind: &[u8], degrees: f32) -> usize {
     page::put_float(page, told, degrees)
 }
 
-fn summary(call: &[u8], page: &mut [u8], numbers: &mut [u32]) -> usize {
-    let n = call::numbers(call, 1, numbers);
-    if numbers.len() < n {
-        return calls::not_understood(page);
-    }
-    put_day(page, temperatures::summary_of(&numbers[0..n]))
+pub(crate) fn summary(page: &mut [u8], codes: &[u32]) -> usize {
+    put_day(page, temperatures::summary_of(codes))
 }
 
 fn put_day(page: &mut [u8], day: Day) -> usize {
@@ -68,20 +46,8 @@ fn put_day(page: &mut [u8], day: Day) -> usize {
     page::put_next(page, warmest, summary.count as u64)
 }
 
-fn day(call: &[u8], page: &mut [u8], room: &mut [u32], bytes: &mut [u8]) -> usize {
-    let number = call::number(call, 1);
-    if GREATEST < number {
-        return calls::not_understood(page);
-    }
-    let n = call::bytes(call, 2, bytes);
-    if bytes.len() < n {
-        return calls::not_understood(page);
-    }
-    day_of(page, number as u32, &bytes[0..n], room)
-}
-
 // Which field is the first temperature is asked of the layout.
-fn day_of(page: &mut [u8], number: u32, frame: &[u8], room: &mut [u32]) -> usize {
+pub(crate) fn day(page: &mut [u8], number: u32, frame: &[u8], room: &mut [u32]) -> usize {
     match Satellite::from_number(number) {
         Known::Is(satellite) => {
             let first = layouts::of(satellite, TEMPERATURES).first_behind_clock();

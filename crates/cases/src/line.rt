@@ -1,19 +1,17 @@
-// Lines put together from the parts that are read, and each of them judged.
+// A line judged: whether it is a case, and whether its answer is the right one.
 ghost use mathlib.Core.Path.{_≡_};
 ghost use mathlib.Core.Bool.{true};
 ghost use Prim.Native.Nat.{_≤_};
 ghost use lib.ListN.{length};
 use crate::call;
 use crate::calls;
+use input::Found;
 use libc::STDOUT_FILENO;
 
-// How many lines, cases, and cases that differ there were so far, and how many bytes of the next line are held: more than there
-// is place for, where it is too long.
+// How many cases there were so far, and how many of them differ.
 pub(crate) struct Tally {
-    pub lines: u64,
     pub cases: u64,
     pub differ: u64,
-    pub held: usize,
 }
 
 enum Verdict {
@@ -22,65 +20,41 @@ enum Verdict {
     Differs,
 }
 
-pub(crate) fn start() -> Tally {
-    Tally {
-        lines: 0,
-        cases: 0,
-        differ: 0,
-        held: 0,
+pub(crate) fn is_end(found: Found) -> bool {
+    match found {
+        Found::Whole => false,
+        Found::TooLong => false,
+        Found::End => true,
     }
 }
 
-pub(crate) fn take(part: &[u8], held: &mut [u8], tally: Tally) -> Tally {
-    let mut tally = tally;
-    let mut i = 0;
-    while i < part.len() {
-        tally = take_byte(part[i], held, tally);
-        i += 1;
-    }
-    tally
-}
-
-fn take_byte(byte: u8, held: &mut [u8], tally: Tally) -> Tally {
-    let n = tally.held;
-    if byte == b'\n' {
-        return judge(held, tally);
-    }
-    if n < held.len() {
-        held[n] = byte;
-        return holding(tally, n + 1);
-    }
-    holding(tally, held.len() + 1)
-}
-
-fn holding(tally: Tally, held: usize) -> Tally {
-    Tally {
-        lines: tally.lines,
-        cases: tally.cases,
-        differ: tally.differ,
-        held,
+pub(crate) fn weighed(text: &[u8], found: Found, line: u64, tally: Tally) -> Tally {
+    match found {
+        Found::Whole => counted(judged(text, line), tally),
+        Found::TooLong => too_long(line, tally),
+        Found::End => tally,
     }
 }
 
-// The line has ended.
-fn judge(held: &[u8], tally: Tally) -> Tally {
-    let n = tally.held;
-    let lines = next(tally.lines);
+fn too_long(line: u64, tally: Tally) -> Tally {
+    print_line(line);
+    io::write_all(STDOUT_FILENO, b"too long\n");
+    counted(Verdict::Differs, tally)
+}
+
+fn counted(verdict: Verdict, tally: Tally) -> Tally {
     let cases = tally.cases;
     let differ = tally.differ;
-    match weighed(held, n, lines) {
-        Verdict::NoCase => counted(lines, cases, differ),
-        Verdict::Same => counted(lines, next(cases), differ),
-        Verdict::Differs => counted(lines, next(cases), next(differ)),
-    }
-}
-
-fn counted(lines: u64, cases: u64, differ: u64) -> Tally {
-    Tally {
-        lines,
-        cases,
-        differ,
-        held: 0,
+    match verdict {
+        Verdict::NoCase => tally,
+        Verdict::Same => Tally {
+            cases: next(cases),
+            differ,
+        },
+        Verdict::Differs => Tally {
+            cases: next(cases),
+            differ: next(differ),
+        },
     }
 }
 
@@ -89,16 +63,7 @@ fn next(n: u64) -> u64 {
     if n < 0xFFFF_FFFF_FFFF { n + 1 } else { n }
 }
 
-fn weighed(held: &[u8], n: usize, line: u64) -> Verdict {
-    if held.len() < n {
-        print_line(line);
-        io::write_all(STDOUT_FILENO, b"too long\n");
-        return Verdict::Differs;
-    }
-    compared(&held[0..n], line)
-}
-
-fn compared(text: &[u8], line: u64) -> Verdict {
+fn judged(text: &[u8], line: u64) -> Verdict {
     if text.len() == 0 {
         return Verdict::NoCase;
     }
@@ -109,10 +74,10 @@ fn compared(text: &[u8], line: u64) -> Verdict {
     if text[0] == b'!' {
         return controlled(&text[1..], line, &mut page);
     }
-    judged(text, line, &mut page)
+    compared(text, line, &mut page)
 }
 
-// A case whose answer is wrong on purpose: it must be told from the right one.
+// A case whose answer is wrong on purpose must not agree.
 fn controlled(text: &[u8], line: u64, page: &mut [u8]) -> Verdict {
     if agrees(text, page) {
         print_line(line);
@@ -122,10 +87,23 @@ fn controlled(text: &[u8], line: u64, page: &mut [u8]) -> Verdict {
         );
         return Verdict::Differs;
     }
-    Verdict::Same
+    if is_understood(text, page) {
+        return Verdict::Same;
+    }
+    print_line(line);
+    io::write_all(STDOUT_FILENO, b"a call that is not understood\n");
+    Verdict::Differs
 }
 
-fn judged(text: &[u8], line: u64, page: &mut [u8]) -> Verdict {
+fn is_understood(text: &[u8], page: &mut [u8]) -> bool {
+    let n = calls::answer(&text[0..parted(text)], page);
+    if page.len() < n {
+        return false;
+    }
+    !check::same(&page[0..n], b"?")
+}
+
+fn compared(text: &[u8], line: u64, page: &mut [u8]) -> Verdict {
     if call::until(text, 0, b'|') == text.len() {
         print_answered(text, page);
         return Verdict::NoCase;
@@ -137,7 +115,6 @@ fn judged(text: &[u8], line: u64, page: &mut [u8]) -> Verdict {
     print_difference(text, page);
     Verdict::Differs
 }
-
 // The bytes of ` | `.
 const BAR: usize = 3;
 
@@ -223,16 +200,7 @@ fn print_answered(call: &[u8], page: &mut [u8]) {
     io::write_all(STDOUT_FILENO, b"\n");
 }
 
-// The last line may have no line end.
-pub(crate) fn finish(held: &[u8], tally: Tally) {
-    if 0 < tally.held {
-        print_tally(judge(held, tally));
-    } else {
-        print_tally(tally);
-    }
-}
-
-fn print_tally(tally: Tally) {
+pub(crate) fn print_tally(tally: Tally) {
     io::print_decimal(STDOUT_FILENO, tally.cases);
     io::write_all(STDOUT_FILENO, b" cases, ");
     io::print_decimal(STDOUT_FILENO, tally.differ);

@@ -25,13 +25,7 @@ pub(crate) fn put_next(page: &mut [u8], at: usize, n: u64) -> usize {
     put_number(page, behind, n)
 }
 
-// A frame, with a blank ahead.
-pub(crate) fn put_frame(page: &mut [u8], at: usize, frame: &[u8]) -> usize {
-    let behind = put(page, at, b" ");
-    put_bytes(page, behind, frame)
-}
-
-fn put_bytes(page: &mut [u8], at: usize, bytes: &[u8]) -> usize {
+pub(crate) fn put_bytes(page: &mut [u8], at: usize, bytes: &[u8]) -> usize {
     let mut end = at;
     let mut i = 0;
     while i < bytes.len() {
@@ -39,6 +33,14 @@ fn put_bytes(page: &mut [u8], at: usize, bytes: &[u8]) -> usize {
         i += 1;
     }
     end
+}
+
+// What a call left of bytes that it may change: `=` where they stayed.
+pub(crate) fn put_changed(page: &mut [u8], at: usize, bytes: &[u8], before: &[u8]) -> usize {
+    if check::same(bytes, before) {
+        return put(page, at, b"=");
+    }
+    put_bytes(page, at, bytes)
 }
 
 fn put_byte(page: &mut [u8], at: usize, b: u8) -> usize {
@@ -54,16 +56,29 @@ fn digit(d: u8) -> u8 {
     }
 }
 
-// The bits of a float, in hexadecimal, with a blank ahead.
+// The bits of a float, with a blank ahead.
 pub(crate) fn put_float(page: &mut [u8], at: usize, x: f32) -> usize {
-    let n = pattern(x);
+    let behind = put(page, at, b" ");
+    put_low_bytes(page, behind, pattern(x), 0)
+}
+
+// The four bytes of a number, the highest first, from number `first` on.
+pub(crate) fn put_low_bytes(page: &mut [u8], at: usize, n: u32, first: usize) -> usize {
     let bytes = [
         byte_of(n / 0x100_0000),
         byte_of(n / 0x1_0000),
         byte_of(n / 256),
         byte_of(n),
     ];
-    put_frame(page, at, &bytes)
+    put_behind(page, at, &bytes, first)
+}
+
+// The bytes from number `first` on.
+pub(crate) fn put_behind(page: &mut [u8], at: usize, bytes: &[u8], first: usize) -> usize {
+    if bytes.len() < first {
+        return at;
+    }
+    put_bytes(page, at, &bytes[first..])
 }
 
 fn byte_of(n: u32) -> u8 {
@@ -105,7 +120,8 @@ fn put_item(page: &mut [u8], at: usize, i: usize, value: u32) -> usize {
 // What an output holds, likewise.
 pub(crate) fn put_output(page: &mut [u8], at: usize, output: &[u8]) -> usize {
     let n = marks::bytes_used(output);
-    let end = put_frame(page, at, &output[0..n]);
+    let behind = put(page, at, b" ");
+    let end = put_bytes(page, behind, &output[0..n]);
     put_kept(page, end, output.len() - n)
 }
 

@@ -3,12 +3,13 @@ use crate::fields;
 use crate::frame::MOST_WORDS;
 use crate::given;
 use crate::given::Typed;
+use crate::given::Values;
 use crate::picture;
 use frames::Writing;
 use printing::bodies::MOST_BYTES;
 use satellites::Known;
 use satellites::Satellite;
-use words::GREATEST;
+use words::Number;
 
 // A line has fewer values.
 const MOST_VALUES: usize = 2048;
@@ -18,19 +19,19 @@ pub(crate) fn write(line: &[u8]) {
     if !given::has_words(line, 3, MOST_WORDS) {
         return;
     }
-    match given::satellite_and_type(line) {
-        Typed::Is(number, ty) => write_type(line, number, ty),
-        Typed::Unknown => {}
-    }
-}
-
-fn write_type(line: &[u8], number: u32, ty: u32) {
+    let typed = given::satellite_and_type(line);
+    let Typed::Is(number, ty) = typed else {
+        return;
+    };
     let mut values = [0u32; MOST_VALUES];
     write_words(line, number, ty, &mut values);
 }
 
 fn write_words(line: &[u8], number: u32, ty: u32, values: &mut [u32]) {
-    let n = given::numbers(line, 3, words::count(line), values);
+    let told = given::numbers(line, 3, values);
+    let Values::Are(n) = told else {
+        return;
+    };
     if values.len() < n {
         return;
     }
@@ -53,19 +54,12 @@ fn print_front(bytes: &[u8], n: usize) {
     printing::text(b"\n");
 }
 
+// Tests 1, 5, 10, 11: the output has room for every frame.
 fn write_refused(number: u32, ty: u32, values: &[u32], writing: Writing) {
-    match Satellite::from_number(number) {
-        Known::Is(satellite) => values_refused(satellite, ty, values, writing),
-        Known::Unknown => no_satellite(number),
-    }
-}
-
-fn no_satellite(number: u32) {
-    given::no_satellite(number);
-}
-
-// Tests 5, 10, 11: the output has room for every frame.
-fn values_refused(satellite: Satellite, ty: u32, values: &[u32], writing: Writing) {
+    let known = Satellite::from_number(number);
+    let Known::Is(satellite) = known else {
+        return given::no_satellite(number);
+    };
     printing::text(b"refused ");
     if writing.refusal == refusals::TYPE {
         printing::reasons::of_type_asked(satellite, ty);
@@ -96,19 +90,19 @@ pub(crate) fn edit(line: &[u8], satellite: Satellite, ty: u32, frame: &[u8], val
     if count < 2 {
         return;
     }
-    let field = given::field(line, count - 2, satellite, ty);
-    if GREATEST < field {
+    let named = given::field(words::word(line, count - 2), satellite, ty);
+    let Number::Is(field) = named else {
         return;
-    }
-    let value = given::decimal(line, count - 1);
-    if GREATEST < value {
+    };
+    let new = given::number(words::word(line, count - 1));
+    let Number::Is(value) = new else {
         return;
-    }
+    };
     let change = Change {
         satellite,
         ty,
-        field,
-        value: value as u32,
+        field: field as usize,
+        value,
     };
     let mut copy = [0u8; MOST_BYTES];
     edit_in(change, frame, values, &mut copy);

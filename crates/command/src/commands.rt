@@ -8,16 +8,11 @@ use crate::given;
 use crate::helps;
 use crate::lines::Next;
 use crate::warmth;
+use crate::warmth::Codes;
 
 // What the next line is, is the answer: frames for `csv` and `json`.
 pub(crate) fn answer(line: &[u8]) -> Next {
-    let span = words::nth(line, 0);
-    let from = span.from;
-    let to = span.to;
-    dispatch(line, &line[from..to])
-}
-
-fn dispatch(line: &[u8], word: &[u8]) -> Next {
+    let word = words::word(line, 0);
     if check::same(word, b"csv") {
         return following::csv(line);
     }
@@ -52,10 +47,10 @@ fn act_else(line: &[u8], word: &[u8]) {
         return frame::of(line, Asked::Explain);
     }
     if check::same(word, b"temperature") {
-        return warmth::temperature(line);
+        return warmth::of(line, Codes::Each);
     }
     if check::same(word, b"summary") {
-        return warmth::summary(line);
+        return warmth::of(line, Codes::Day);
     }
     if check::same(word, b"help") {
         return helps::help(line);

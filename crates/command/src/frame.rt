@@ -3,12 +3,13 @@ use crate::changes;
 use crate::explains;
 use crate::fields;
 use crate::given;
+use crate::given::Framed;
 use frames::Reading;
 use printing::bodies::MOST_BYTES;
 use printing::tests::ROOM;
 use satellites::Known;
 use satellites::Satellite;
-use words::GREATEST;
+use words::Number;
 
 pub(crate) enum Asked {
     Read,
@@ -24,12 +25,12 @@ pub(crate) fn of(line: &[u8], asked: Asked) {
     if !given::has_words(line, least_words(asked), MOST_WORDS) {
         return;
     }
-    let number = given::satellite(line, 1);
-    if GREATEST < number {
+    let named = given::satellite(words::word(line, 1));
+    let Number::Is(number) = named else {
         return;
-    }
+    };
     let mut bytes = [0u8; MOST_BYTES];
-    in_words(line, asked, number as u32, &mut bytes);
+    in_words(line, asked, number, &mut bytes);
 }
 
 // The command, satellite and frame; and field and value.
@@ -56,9 +57,14 @@ fn in_words(line: &[u8], asked: Asked, number: u32, bytes: &mut [u8]) {
     if count < behind {
         return;
     }
-    let n = given::frame(line, 2, count - behind, bytes);
+    let told = given::frame(line, 2, count - behind, bytes);
+    let Framed::Is(n) = told else {
+        printing::text(b"error: ");
+        given::frame_fault(line, told);
+        return printing::text(b"\n");
+    };
     if bytes.len() < n {
-        return given::bad_frame(line, n);
+        return;
     }
     let mut room = [0u32; ROOM];
     read(line, asked, number, &bytes[0..n], &mut room);

@@ -1,11 +1,9 @@
-// What the words of a command stand for. A word that stands for nothing is told, in one line.
-ghost use mathlib.Core.Path.{_≡_};
-ghost use lib.ListN.{length};
+// What the words of a command are. Where a word is none of these, one line says so.
 use names::Name;
 use satellites::Known;
 use satellites::Satellite;
-use words::GREATEST;
-use words::NONE;
+use words::Bytes;
+use words::Number;
 
 // An error: what is wrong, and with which word.
 fn wrong(what: &[u8], word: &[u8], hint: &[u8]) {
@@ -18,10 +16,7 @@ fn wrong(what: &[u8], word: &[u8], hint: &[u8]) {
 }
 
 pub(crate) fn wrong_word(line: &[u8], n: usize, what: &[u8], hint: &[u8]) {
-    let span = words::nth(line, n);
-    let from = span.from;
-    let to = span.to;
-    wrong(what, &line[from..to], hint);
+    wrong(what, words::word(line, n), hint);
 }
 
 pub(crate) fn line_too_long(line: &[u8]) {
@@ -30,10 +25,9 @@ pub(crate) fn line_too_long(line: &[u8]) {
 
 // The first word begins with `#`.
 pub(crate) fn is_remark(line: &[u8]) -> bool {
-    let span = words::nth(line, 0);
-    let from = span.from;
-    if from < line.len() {
-        return line[from] == b'#';
+    let word = words::word(line, 0);
+    if 0 < word.len() {
+        return word[0] == b'#';
     }
     false
 }
@@ -53,30 +47,25 @@ pub(crate) fn has_words(line: &[u8], least: usize, most: usize) -> bool {
 }
 
 fn missing(line: &[u8]) {
-    let span = words::nth(line, 0);
-    let from = span.from;
-    let to = span.to;
+    let word = words::word(line, 0);
     printing::text(b"error: words are missing: ");
-    printing::word(&line[from..to]);
+    printing::word(word);
     printing::text(b" (help ");
-    printing::word(&line[from..to]);
+    printing::word(word);
     printing::text(b" tells which)\n");
 }
 
-// The number of 32 bits that word n is; NONE where it is none.
-pub(crate) fn decimal(line: &[u8], n: usize) -> usize {
-    let span = words::nth(line, n);
-    let from = span.from;
-    let to = span.to;
-    number_of(&line[from..to])
-}
-
-fn number_of(word: &[u8]) -> usize {
-    let number = words::decimal(word);
-    if GREATEST < number {
-        wrong(b"not a number of 32 bits", word, b"");
+// Hands on what a word was found to be. Where it is no number, prints what is wrong with it.
+fn or_error(number: Number, what: &[u8], word: &[u8], hint: &[u8]) -> Number {
+    match number {
+        Number::Is(_value) => {}
+        Number::None => wrong(what, word, hint),
     }
     number
+}
+
+pub(crate) fn number(word: &[u8]) -> Number {
+    or_error(words::decimal(word), b"not a number of 32 bits", word, b"")
 }
 
 // Satellite and type, which are the words behind the command's own.
@@ -86,50 +75,66 @@ pub(crate) enum Typed {
 }
 
 pub(crate) fn satellite_and_type(line: &[u8]) -> Typed {
-    let number = satellite(line, 1);
-    if GREATEST < number {
+    let named = satellite(words::word(line, 1));
+    let Number::Is(satellite) = named else {
         return Typed::Unknown;
-    }
-    let ty = decimal(line, 2);
-    if GREATEST < ty {
+    };
+    let typed = number(words::word(line, 2));
+    let Number::Is(ty) = typed else {
         return Typed::Unknown;
-    }
-    Typed::Is(number as u32, ty as u32)
+    };
+    Typed::Is(satellite, ty)
 }
 
-// The number of the satellite that word n names, by its name or a number; NONE where it is neither. Whether there is a satellite of that
-// number is for the library to say.
-pub(crate) fn satellite(line: &[u8], n: usize) -> usize {
-    let span = words::nth(line, n);
-    let from = span.from;
-    let to = span.to;
-    satellite_of(&line[from..to])
+// A satellite and a type that it carries.
+pub(crate) enum Carried {
+    By(Satellite, u32),
+    Not,
 }
 
-fn satellite_of(word: &[u8]) -> usize {
+// By the words behind the command's own. Where there is no such satellite, or it does not carry the type, prints the refusal.
+pub(crate) fn type_carried(line: &[u8]) -> Carried {
+    let typed = satellite_and_type(line);
+    let Typed::Is(number, ty) = typed else {
+        return Carried::Not;
+    };
+    let known = Satellite::from_number(number);
+    let Known::Is(satellite) = known else {
+        no_satellite(number);
+        return Carried::Not;
+    };
+    if layouts::of(satellite, ty).carried {
+        return Carried::By(satellite, ty);
+    }
+    printing::text(b"refused ");
+    printing::reasons::of_type_asked(satellite, ty);
+    printing::text(b"\n");
+    Carried::Not
+}
+
+// The number of the satellite that a word names, by its name or a number. Whether there is a satellite of that number is for the library
+// to say.
+pub(crate) fn satellite(word: &[u8]) -> Number {
     if words::are_digits(word, 10) {
-        return number_of(word);
+        return number(word);
     }
-    let named = satellite_named(word);
-    if GREATEST < named {
-        wrong(
-            b"unknown satellite",
-            word,
-            b" (HADES-D, HADES-ICM, MARIA-G, UNNE-1, HADES-R, UNNE-1B, HADES-SA, or 0 to 6)",
-        );
-    }
-    named
+    or_error(
+        satellite_named(word),
+        b"unknown satellite",
+        word,
+        b" (HADES-D, HADES-ICM, MARIA-G, UNNE-1, HADES-R, UNNE-1B, HADES-SA, or 0 to 6)",
+    )
 }
 
-fn satellite_named(word: &[u8]) -> usize {
+fn satellite_named(word: &[u8]) -> Number {
     for number in 0..Satellite::count() {
         if let Known::Is(satellite) = Satellite::from_number(number) {
             if is_name(word, names::of_satellite(satellite)) {
-                return number as usize;
+                return Number::Is(number);
             }
         }
     }
-    NONE
+    Number::None
 }
 
 // Whether a word is a name, in upper or lower case.
@@ -160,139 +165,88 @@ fn lower(letter: u8) -> u8 {
     }
 }
 
-// The field of a type that word n names, by its name or a number; NONE where it is neither. Whether there is a field of that number is for
-// the library to say.
-pub(crate) fn field(line: &[u8], n: usize, satellite: Satellite, ty: u32) -> usize {
-    let span = words::nth(line, n);
-    let from = span.from;
-    let to = span.to;
-    field_of(&line[from..to], satellite, ty)
-}
-
-fn field_of(word: &[u8], satellite: Satellite, ty: u32) -> usize {
+// The field of a type that a word names, by its name or a number. Whether there is a field of that number is for the library to say.
+pub(crate) fn field(word: &[u8], satellite: Satellite, ty: u32) -> Number {
     if words::are_digits(word, 10) {
-        return number_of(word);
+        return number(word);
     }
-    let named = field_named(word, satellite, ty);
-    if GREATEST < named {
-        wrong(
-            b"unknown field",
-            word,
-            b" (the command fields lists their names)",
-        );
-    }
-    named
+    or_error(
+        field_named(word, satellite, ty),
+        b"unknown field",
+        word,
+        b" (the command fields lists their names)",
+    )
 }
 
-fn field_named(word: &[u8], satellite: Satellite, ty: u32) -> usize {
-    for field in 0..layouts::of(satellite, ty).fields {
-        if is_name(word, names::of(satellite, ty, field)) {
-            return field;
+fn field_named(word: &[u8], satellite: Satellite, ty: u32) -> Number {
+    let row = names::row(satellite, ty);
+    for field in 0..layouts::MOST_FIELDS as u32 {
+        if is_name(word, names::in_row(&row, field as usize)) {
+            return Number::Is(field);
         }
     }
-    NONE
+    Number::None
 }
 
-// There is no satellite of that number, which is told.
-pub(crate) fn no_satellite(number: u32) -> bool {
+// Prints that there is no satellite of that number.
+pub(crate) fn no_satellite(number: u32) {
     printing::text(b"refused ");
     printing::reasons::of_number(number);
     printing::text(b"\n");
-    false
 }
 
-// Words `first` up to `end` are a frame: pairs of hexadecimal digits, whose bytes go to the start of `out`. The answer is how many they
-// are; where a word is something else, NONE and its number more.
-pub(crate) fn frame(line: &[u8], first: usize, end: usize, out: &mut [u8]) -> usize {
+// What some words are as a frame: so many bytes, or which of them is at fault, and why.
+pub(crate) enum Framed {
+    Is(usize),
+    Bad(usize, Bytes),
+}
+
+// Words `first` up to `end` are a frame: pairs of hexadecimal digits, whose bytes go to the start of `out`.
+pub(crate) fn frame(line: &[u8], first: usize, end: usize, out: &mut [u8]) -> Framed {
     let mut n = 0;
-    let mut k = first;
-    while k < end {
-        n = with_pairs(line, k, out, n);
-        if GREATEST < n {
-            return n;
-        }
-        k += 1;
+    for k in first..end {
+        let bytes = words::pairs(words::word(line, k), &mut out[n..]);
+        let Bytes::Are(more) = bytes else {
+            return Framed::Bad(k, bytes);
+        };
+        n += more;
     }
-    n
+    Framed::Is(n)
 }
 
-fn with_pairs(line: &[u8], k: usize, out: &mut [u8], n: usize) -> usize
-    ensures { λ _. ⌜ length (now (out .exit)) ≡ length (now (out .entry)) ⌝ }
-{
-    let span = words::nth(line, k);
-    let from = span.from;
-    let to = span.to;
-    if out.len() < n {
-        return marked(k);
-    }
-    let more = words::pairs(&line[from..to], &mut out[n..]);
-    added(n, more, k)
-}
-
-fn added(n: usize, more: usize, k: usize) -> usize {
-    if GREATEST < n {
-        return marked(k);
-    }
-    if GREATEST < more {
-        return marked(k);
-    }
-    n + more
-}
-
-// The word that is at fault. A line does not have so many.
-fn marked(k: usize) -> usize {
-    if k < 65536 { NONE + k } else { NONE }
-}
-
-pub(crate) fn bad_frame(line: &[u8], mark: usize) {
-    printing::text(b"error: ");
-    frame_fault(line, mark);
-    printing::text(b"\n");
-}
-
-// Why the marked word is no part of a frame.
-pub(crate) fn frame_fault(line: &[u8], mark: usize) {
-    if mark < NONE {
+// Prints why a word is no part of a frame. No line is long enough for too many bytes.
+pub(crate) fn frame_fault(line: &[u8], frame: Framed) {
+    let Framed::Bad(k, bytes) = frame else {
         return;
+    };
+    match bytes {
+        Bytes::Are(_n) => {}
+        Bytes::NotDigits => printing::text(b"not hexadecimal: "),
+        Bytes::Odd => printing::text(b"an odd number of hexadecimal digits: "),
+        Bytes::TooMany => printing::text(b"too many bytes: "),
     }
-    let span = words::nth(line, mark - NONE);
-    let from = span.from;
-    let to = span.to;
-    fault(&line[from..to]);
+    printing::word(words::word(line, k));
 }
 
-fn fault(word: &[u8]) {
-    if words::are_digits(word, 16) {
-        printing::text(b"an odd number of hexadecimal digits: ");
-    } else {
-        printing::text(b"not hexadecimal: ");
-    }
-    printing::word(word);
+// So many numbers, or a word is none.
+pub(crate) enum Values {
+    Are(usize),
+    None,
 }
 
-// Words `first` up to `end` are numbers, which go to the start of `out`. The answer is how many they are; NONE where a word is none.
-pub(crate) fn numbers(line: &[u8], first: usize, end: usize, out: &mut [u32]) -> usize {
+// Words `first` and later are numbers, which go to the start of `out`. No line has more than there is place for.
+pub(crate) fn numbers(line: &[u8], first: usize, out: &mut [u32]) -> Values {
     let mut n = 0;
-    let mut k = first;
-    while k < end {
-        if !keep(out, n, decimal(line, k)) {
-            return NONE;
+    for k in first..words::count(line) {
+        if out.len() <= n {
+            return Values::None;
         }
+        let word = number(words::word(line, k));
+        let Number::Is(value) = word else {
+            return Values::None;
+        };
+        out[n] = value;
         n += 1;
-        k += 1;
     }
-    n
-}
-
-// Whether it is a number, which then goes to place k.
-fn keep(out: &mut [u32], k: usize, value: usize) -> bool
-    ensures { λ _. ⌜ length (now (out .exit)) ≡ length (now (out .entry)) ⌝ }
-{
-    if GREATEST < value {
-        return false;
-    }
-    if k < out.len() {
-        out[k] = value as u32;
-    }
-    true
+    Values::Are(n)
 }

@@ -9,10 +9,7 @@ pub(crate) fn help(line: &[u8]) {
     if words::count(line) < 2 {
         return all();
     }
-    let span = words::nth(line, 1);
-    let from = span.from;
-    let to = span.to;
-    of(line, &line[from..to]);
+    of(line, words::word(line, 1));
 }
 
 fn all() {

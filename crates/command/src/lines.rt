@@ -1,10 +1,10 @@
-// Lines of standard input, as they come: each is answered when its end is read.
-ghost use Rattle.io.specs.Counts.{Counts};
+// Lines of standard input: each is answered when its end is read.
 use crate::commands;
 use crate::following;
 use crate::following::Row;
 use crate::given;
-use libc::STDIN_FILENO;
+use input::Found;
+use input::Place;
 
 // What the next line is: a command, or a satellite's frame, which becomes a row; or no line is read any more.
 pub(crate) enum Next {
@@ -13,47 +13,32 @@ pub(crate) enum Next {
     End,
 }
 
-// How many bytes of a line are held, one more than there is place for where it is too long; what the line is; and whether commands
-// come by lines, or one has come by arguments.
-struct State {
-    held: usize,
-    next: Next,
-    driven: bool,
-}
+// No input has so many lines.
+const MOST_LINES: u64 = 0xFFFF_FFFF_FFFF;
 
-// Nothing says that input ends: so many reads are made at the most.
-const MOST_READS: u64 = 0xFFFF_FFFF_FFFF;
-
+// Answers the lines that come. They are commands if `driven`; else one command came by arguments, and they are its frames.
 pub(crate) fn follow(part: &mut [u8], line: &mut [u8], next: Next, driven: bool) {
-    let mut state = State {
-        held: 0,
-        next,
-        driven,
+    let mut next = next;
+    let mut place = Place {
+        at: 0,
+        end: 0,
+        ended: false,
     };
-    let mut reads = 0;
-    while reads < MOST_READS {
-        let n = some(part);
-        if n == 0 {
-            return finish(line, state);
-        }
-        state = take(&part[0..n], line, state);
-        if is_over(state) {
+    let mut lines = 0;
+    while lines < MOST_LINES {
+        let got = input::next(part, line, place);
+        let found = got.found;
+        let letters = got.letters;
+        place = got.place;
+        next = taken(&line[0..letters], found, next, driven);
+        if is_over(next) {
             return;
         }
-        reads += 1;
+        lines += 1;
     }
 }
 
-// What has come so far: a reader that waits for its answer gets it.
-fn some(part: &mut [u8]) -> usize
-    ensures { λ r. ⌜ Counts r (now (part .exit)) ⌝ }
-{
-    let got = libc::read(STDIN_FILENO, part);
-    io::count(got, part)
-}
-
-fn is_over(state: State) -> bool {
-    let next = state.next;
+fn is_over(next: Next) -> bool {
     match next {
         Next::Command => false,
         Next::Frame(_number, _row) => false,
@@ -61,69 +46,20 @@ fn is_over(state: State) -> bool {
     }
 }
 
-// The last line may have no line end, and frames no empty line behind them.
-fn finish(line: &[u8], state: State) {
-    if 0 < state.held {
-        return finish_frames(ended(line, state));
+fn taken(line: &[u8], found: Found, next: Next, driven: bool) -> Next {
+    match found {
+        Found::Whole => answered(line, next, driven),
+        Found::TooLong => too_long(line, next, driven),
+        Found::End => finished(next, driven),
     }
-    finish_frames(state);
 }
 
-fn finish_frames(state: State) {
-    let next = state.next;
-    let driven = state.driven;
+// Frames may have no empty line behind them.
+fn finished(next: Next, driven: bool) -> Next {
     if let Next::Frame(_number, _row) = next {
         close(driven);
     }
-}
-
-fn take(part: &[u8], line: &mut [u8], state: State) -> State {
-    let mut state = state;
-    let mut i = 0;
-    while i < part.len() {
-        state = take_byte(part[i], line, state);
-        i += 1;
-    }
-    state
-}
-
-fn take_byte(byte: u8, line: &mut [u8], state: State) -> State {
-    if byte == b'\n' {
-        return ended(line, state);
-    }
-    let n = state.held;
-    if n < line.len() {
-        line[n] = byte;
-        return holding(state, n + 1);
-    }
-    holding(state, line.len() + 1)
-}
-
-fn holding(state: State, held: usize) -> State {
-    let next = state.next;
-    State {
-        held,
-        next,
-        driven: state.driven,
-    }
-}
-
-fn ended(line: &[u8], state: State) -> State {
-    let n = state.held;
-    let next = state.next;
-    let driven = state.driven;
-    if line.len() < n {
-        return State {
-            held: 0,
-            next: too_long(line, next, driven),
-            driven,
-        };
-    }
-    State {
-        held: 0,
-        next: answered(&line[0..n], next, driven),
-        driven,
-    }
+    Next::End
 }
 
 fn too_long(line: &[u8], next: Next, driven: bool) -> Next {

@@ -26,9 +26,12 @@ fn main() {
 }
 
 fn by_arguments(part: &mut [u8], line: &mut [u8]) {
-    let n = joined(line);
-    if line.len() < n {
+    let told = joined(line);
+    let Line::Is(n) = told else {
         return given::line_too_long(line);
+    };
+    if line.len() < n {
+        return;
     }
     let next = commands::answer(&line[0..n]);
     match next {
@@ -38,39 +41,49 @@ fn by_arguments(part: &mut [u8], line: &mut [u8]) {
     }
 }
 
-// The arguments as one line, a blank behind each. The answer is its length; more than there is place for where they do not fit.
-fn joined(line: &mut [u8]) -> usize {
-    let count = os::arg_count();
-    let mut at = 0;
-    let mut i = 1;
-    while i < count {
-        at = with_argument(line, at, i);
-        i += 1;
-    }
-    at
+// Words that are joined to a line: its length, or that there is no place for it, and then it has what fits.
+enum Line {
+    Is(usize),
+    TooLong,
 }
 
-fn with_argument(line: &mut [u8], at: usize, i: usize) -> usize {
+// The arguments as one line, a blank behind each.
+fn joined(line: &mut [u8]) -> Line {
+    let mut at = 0;
+    for i in 1..os::arg_count() {
+        let told = with_argument(line, at, i);
+        let Line::Is(end) = told else {
+            return told;
+        };
+        at = end;
+    }
+    Line::Is(at)
+}
+
+fn with_argument(line: &mut [u8], at: usize, i: usize) -> Line {
     let mut word = io::buffer();
     let n = os::arg(i, &mut word);
     if os::errno() != 0 {
         put(line, at, &word);
-        return words::NONE;
+        return Line::TooLong;
     }
-    let end = put(line, at, &word[..n]);
-    put(line, end, b" ")
+    let told = put(line, at, &word[..n]);
+    match told {
+        Line::Is(end) => put(line, end, b" "),
+        Line::TooLong => Line::TooLong,
+    }
 }
 
 // Of a text that does not fit, the front that does.
-fn put(line: &mut [u8], at: usize, text: &[u8]) -> usize {
+fn put(line: &mut [u8], at: usize, text: &[u8]) -> Line {
     if line.len() < at {
-        return words::NONE;
+        return Line::TooLong;
     }
     let room = line.len() - at;
     if room < text.len() {
         bytes::copy(&text[0..room], &mut line[at..]);
-        return words::NONE;
+        return Line::TooLong;
     }
     bytes::copy(text, &mut line[at..]);
-    at + text.len()
+    Line::Is(at + text.len())
 }

@@ -1,5 +1,5 @@
--- Every row has as many names as fields, and every name fits whole: tests that are computed over the types of each satellite,
--- and the laws that lead from the tests to every type.
+-- Every type has as many names as fields, and every name fits whole: tests that are computed over the types of all satellites and over the
+-- table, and the laws that lead from the tests to every type.
 -- Assumes nothing.
 use Prim.Native.Nat.{ℕ, _≤_, _<_}
 use mathlib.Core.Path.{_≡_, refl}
@@ -10,56 +10,45 @@ use lib.Dec.{T, leb, eqb, leb→le, eqb→eq}
 use lib.ListN.{length, getD}
 use mir.Facts.{and-yes}
 use Rattle.satellites.specs.declared.Satellite.{Satellite}
-use Rattle.satellites.specs.declared.Satellite.the-variants.{HadesD, HadesIcm, MariaG, Unne1, HadesR, Unne1b, HadesSa}
-use Rattle.layouts.specs.Layouts.{table, counted, among, carriedBy, found, entryOf, typesOf, carries}
+use Rattle.satellites.specs.Satellites.{seven}
+use Rattle.layouts.specs.Layouts.{counted, among, carriedBy, found, entryOf, typesOf, carries}
+use Rattle.layouts.specs.Layouts.{table as layouts}
 use Rattle.layouts.specs.Rules.{every}
 use Rattle.layouts.proofs.Entries.{each, passes, no-entry}
-use Rattle.names.specs.Names.{text, index, arrayOf, gridOf, mostLetters, written}
-use Rattle.names.specs.Fields.{namesOf, nameOf}
+use Rattle.names.specs.Names.{text, partsOf, index, arrayOf, gridOf, mostLetters, written}
+use Rattle.names.specs.Fields.{table, namesIn, namesOf, nameOf}
+use Rattle.names.proofs.Carried.{not-carried}
+use Rattle.names.proofs.Everywhere.{each-satellite, each-type}
 
 -- a type has as many names as fields
 abbrev asMany : Satellite → ℕ → Bool
 asMany s t = eqb (length (namesOf s t)) (length (entryOf s t .widths))
 
-all-as-many : (s : Satellite) → T (every (asMany s) (typesOf s))
-unfolding every table counted among carriedBy found text index arrayOf gridOf
-all-as-many HadesD = tt
-all-as-many HadesIcm = tt
-all-as-many MariaG = tt
-all-as-many Unne1 = tt
-all-as-many HadesR = tt
-all-as-many Unne1b = tt
-all-as-many HadesSa = tt
+all-as-many : T (every (λ s. every (asMany s) (typesOf s)) seven)
+unfolding every layouts counted among carriedBy found table namesIn text partsOf index arrayOf gridOf
+all-as-many = tt
 
 -- every type, carried or not, has as many names as fields
 pub as-many : (s : Satellite) (t : ℕ) → length (namesOf s t) ≡ length (entryOf s t .widths)
 as-many s t = go (carries s t) refl
   where
     go : (b : Bool) → carries s t ≡ b → length (namesOf s t) ≡ length (entryOf s t .widths)
-    go true e = eqb→eq (length (namesOf s t)) (length (entryOf s t .widths)) (passes (asMany s) (typesOf s) t (all-as-many s) e)
-    go false e = rw (e, no-entry s t e)
+    go true e =
+        let here = each-satellite (λ s. every (asMany s) (typesOf s)) all-as-many s in
+        eqb→eq (length (namesOf s t)) (length (entryOf s t .widths)) (passes (asMany s) (typesOf s) t here e)
+    go false e = rw (not-carried s t e, no-entry s t e)
 
 -- a name has a letter, and as many as there is place for
 abbrev fits : List ℕ → Bool
 fits name = leb 1 (length name) && leb (length name) mostLetters
 
-all-fit : (s : Satellite) → T (every (λ t. every fits (namesOf s t)) (typesOf s))
-unfolding every table counted among carriedBy text index arrayOf gridOf
-all-fit HadesD = tt
-all-fit HadesIcm = tt
-all-fit MariaG = tt
-all-fit Unne1 = tt
-all-fit HadesR = tt
-all-fit Unne1b = tt
-all-fit HadesSa = tt
+all-fit : T (every (λ l. every fits (l .names)) table)
+unfolding every counted table text partsOf index arrayOf gridOf
+all-fit = tt
 
 names-fit : (s : Satellite) (t : ℕ) → T (every fits (namesOf s t))
 unfolding every
-names-fit s t = go (carries s t) refl
-  where
-    go : (b : Bool) → carries s t ≡ b → T (every fits (namesOf s t))
-    go true e = passes (λ t. every fits (namesOf s t)) (typesOf s) t (all-fit s) e
-    go false e = rw e tt
+names-fit s t = each-type (every fits) tt all-fit s t
 
 fitted : (name : List ℕ) → T (fits name) → (1 ≤ length name) × (length name ≤ mostLetters)
 fitted name t =

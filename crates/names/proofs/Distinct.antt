@@ -1,40 +1,41 @@
--- A name names one field of its type, and one satellite: a test that is computed over the types of each satellite, and over the
--- satellites, and the law that leads from the test to every two names. The test looks at Names, as the public functions answer them.
+-- A name names one field of its type, and one satellite: a test that is computed over the table, and over the satellites, and the law
+-- that leads from the test to every two names. The test looks at Names, as the public functions answer them.
 -- Assumes nothing.
 use Prim.Native.Nat.{ℕ, zero, suc, _+_, _*_, _<_}
 use native.Mathlib.Nat.{le-of-suc-le-suc, not-suc-le-zero}
 use mathlib.Core.Path.{_≡_, refl, _∙_, sym, ap, subst}
-use mathlib.Core.Bool.{Bool, true, false, not, _&&_}
+use mathlib.Core.Bool.{Bool, true, not, _&&_}
 use mathlib.Core.List.{List, [], _∷_, map}
 use lib.Dec.{T, eqb, eqb-refl, T-not}
 use lib.ListN.{length, getD, length-map, List·getD-map}
 use mir.Facts.{and-yes}
 use Rattle.satellites.specs.declared.Satellite.{Satellite}
-use Rattle.satellites.specs.declared.Satellite.the-variants.{HadesD, HadesIcm, MariaG, Unne1, HadesR, Unne1b, HadesSa}
-use Rattle.satellites.specs.Satellites.{numberOf, seven, known}
+use Rattle.satellites.specs.Satellites.{numberOf, known}
 use Rattle.satellites.proofs.Laws.{known-number, number-below}
-use Rattle.layouts.specs.Layouts.{table, counted, among, carriedBy, typesOf, carries}
+use Rattle.layouts.specs.Layouts.{counted}
 use Rattle.layouts.specs.Rules.{every}
-use Rattle.layouts.proofs.Entries.{each, passes}
+use Rattle.layouts.proofs.Entries.{each}
 use Rattle.names.specs.declared.Name.{Name}
-use Rattle.names.specs.Names.{text, index, arrayOf, gridOf, padded, written}
-use Rattle.names.specs.Fields.{namesOf, nameOf, satelliteName}
+use Rattle.names.specs.Names.{text, partsOf, index, arrayOf, gridOf, filled, written}
+use Rattle.names.specs.Fields.{satelliteName, table, namesOf, nameOf}
+use Rattle.names.proofs.Everywhere.{by-number, each-type}
+use Rattle.names.proofs.Rows.{satelliteNames}
 
 -- a number is none of some numbers
 abbrev differs : ℕ → List ℕ → Bool
 differs n ns = every (λ m. not (eqb n m)) ns
 
--- no number stands twice
+-- no number is there twice
 once : List ℕ → Bool
 once [] = true
 once (n ∷ ns) = differs n ns && once ns
 
--- a number that is none of them stands at none of their places
+-- a number that is none of them is at none of their places
 not-again : (n : ℕ) (ns : List ℕ) → T (differs n ns) → (k : ℕ) → k < length ns → n ≡ getD ns k 0 → ⊥
 not-again n ns t k h e =
     T-not (eqb n (getD ns k 0)) (each (λ m. not (eqb n m)) 0 ns t k h) (subst (λ (m : ℕ). T (eqb n m)) e (eqb-refl n))
 
--- where no number stands twice, equal numbers stand at one place
+-- where no number is there twice, equal numbers are at one place
 one-place : (ns : List ℕ) → T (once ns) → (i j : ℕ) → i < length ns → j < length ns → getD ns i 0 ≡ getD ns j 0 → i ≡ j
 unfolding once
 one-place [] t i j h k e = absurd (not-suc-le-zero h)
@@ -57,32 +58,22 @@ numbered name = asNumber (written name .text)
 abbrev distinct : List (List ℕ) → Bool
 distinct names = once (map numbered names)
 
--- where no two of them are, equal Names stand at one place
+-- where no two of them are, equal Names are at one place
 told-apart : (names : List (List ℕ)) → T (distinct names) → (i j : ℕ) → i < length names → j < length names
     → written (getD names i []) ≡ written (getD names j []) → i ≡ j
-unfolding written padded asNumber
+unfolding written filled asNumber
 told-apart names t i j h k e =
     let same = ap (λ (n : Name). asNumber (n .text)) e in
     one-place (map numbered names) t i j (rw length-map h) (rw length-map k)
     (List·getD-map numbered names i [] ∙ same ∙ sym (List·getD-map numbered names j []))
 
-all-distinct : (s : Satellite) → T (every (λ t. distinct (namesOf s t)) (typesOf s))
-unfolding every table counted among carriedBy text index arrayOf gridOf padded written once asNumber
-all-distinct HadesD = tt
-all-distinct HadesIcm = tt
-all-distinct MariaG = tt
-all-distinct Unne1 = tt
-all-distinct HadesR = tt
-all-distinct Unne1b = tt
-all-distinct HadesSa = tt
+all-distinct : T (every (λ l. distinct (l .names)) table)
+unfolding every counted table text partsOf index arrayOf gridOf filled written once asNumber
+all-distinct = tt
 
 distinct-names : (s : Satellite) (t : ℕ) → T (distinct (namesOf s t))
 unfolding once
-distinct-names s t = go (carries s t) refl
-  where
-    go : (b : Bool) → carries s t ≡ b → T (distinct (namesOf s t))
-    go true e = passes (λ t. distinct (namesOf s t)) (typesOf s) t (all-distinct s) e
-    go false e = rw e tt
+distinct-names s t = each-type distinct tt all-distinct s t
 
 module _ (s : Satellite) (t i j : ℕ) (h : i < length (namesOf s t)) (k : j < length (namesOf s t)) where
   -- no two fields of a type are answered with the same Name
@@ -93,24 +84,14 @@ module _ (s : Satellite) (t i j : ℕ) (h : i < length (namesOf s t)) (k : j < l
   pub names-distinct : getD (namesOf s t) i [] ≡ getD (namesOf s t) j [] → i ≡ j
   names-distinct e = answers-distinct (ap written e)
 
-satellites-all-distinct : T (distinct (map satelliteName seven))
-unfolding every text padded written once asNumber
+satellites-all-distinct : T (distinct satelliteNames)
+unfolding every text filled written once asNumber
 satellites-all-distinct = tt
-
--- a satellite's name stands at its number
-at-number : (s : Satellite) → getD (map satelliteName seven) (numberOf s) [] ≡ satelliteName s
-at-number HadesD = refl
-at-number HadesIcm = refl
-at-number MariaG = refl
-at-number Unne1 = refl
-at-number HadesR = refl
-at-number Unne1b = refl
-at-number HadesSa = refl
 
 -- no two satellites have the same name
 pub satellites-distinct : (s t : Satellite) → satelliteName s ≡ satelliteName t → s ≡ t
 satellites-distinct s t e =
-    let name = ap written (at-number s ∙ e ∙ sym (at-number t)) in
+    let name = ap written (by-number satelliteName [] s ∙ e ∙ sym (by-number satelliteName [] t)) in
     let number : numberOf s ≡ numberOf t =
-    told-apart (map satelliteName seven) satellites-all-distinct (numberOf s) (numberOf t) (number-below s) (number-below t) name in
+    told-apart satelliteNames satellites-all-distinct (numberOf s) (numberOf t) (number-below s) (number-below t) name in
     cc (known-number s, known-number t, ap known number)

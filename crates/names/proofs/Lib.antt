@@ -1,11 +1,13 @@
-pub mod Along
-pub mod Arrays
+pub mod Carried
 pub mod Clocks
 pub mod Contracts
 pub mod Counted
 pub mod Determined
 pub mod Distinct
+pub mod Everywhere
+pub mod Filled
+pub mod Kept
+pub mod Parts
+pub mod Rows
 pub mod Sensors
-pub mod Words
 pub mod Worked
-pub mod Written

@@ -4,12 +4,13 @@ use mathlib.Core.Path.{_≡_, refl}
 use lib.ListN.{drop}
 use Rattle.satellites.specs.declared.Satellite.{Satellite}
 use Rattle.satellites.specs.declared.Satellite.the-variants.{HadesD, HadesIcm, MariaG, Unne1, HadesR, Unne1b, HadesSa}
-use Rattle.layouts.specs.Layouts.{table, counted, among, carriedBy, found, entryOf, firstBehindClock}
-use Rattle.names.specs.Fields.{namesOf, sensors}
+use Rattle.layouts.specs.Layouts.{counted, among, carriedBy, found, entryOf, firstBehindClock}
+use Rattle.layouts.specs.Layouts.{table as layouts}
+use Rattle.names.specs.Fields.{sensors, table, namesIn, namesOf}
 
 -- behind the clock, if there is one, the fields of type 2 are tpa to tcpu in every satellite's document, and nothing is behind them
 pub named-so : (s : Satellite) → drop (firstBehindClock (entryOf s 2 .clock)) (namesOf s 2) ≡ sensors
-unfolding table counted among carriedBy found
+unfolding layouts counted among carriedBy found table namesIn
 named-so HadesD = refl
 named-so HadesIcm = refl
 named-so MariaG = refl

@@ -1,3 +1,3 @@
 pub mod Fields
+pub mod Lines
 pub mod Names
-pub mod Words

@@ -1,11 +1,12 @@
--- Texts and names (01, "The field tables"; FORMAT 6). A text is the list of its letters, and a letter is its character's code.
+-- Texts, their parts, and names (01, "The field tables"; FORMAT 6). A text is the list of its letters, and a letter is its character's
+-- code.
 use Prim.Native.Nat.{ℕ, zero, suc, _+_, _/_, _%_, min}
 use Prim.Native.Char.{code}
 use Prim.Native.String.{String, [] as []ˢ, _∷_ as _∷ˢ_}
 use mathlib.Core.Bool.{cond}
 use mathlib.Core.List.{List, [], _∷_, _++_, map}
-use lib.ListN.{length}
-use lib.Dec.{ltb}
+use lib.ListN.{length, replicate}
+use lib.Dec.{eqb, ltb}
 use Rattle.names.specs.declared.Name.{Name}
 
 -- a string as a text
@@ -13,11 +14,25 @@ unfoldable pub text : String → List ℕ
 text []ˢ = []
 text (c ∷ˢ cs) = code c ∷ text cs
 
--- the first n letters of a text, with zeros behind them where there are fewer
-unfoldable pub padded : ℕ → List ℕ → List ℕ
-padded zero xs = []
-padded (suc n) [] = 0 ∷ padded n []
-padded (suc n) (x ∷ xs) = x ∷ padded n xs
+-- one letter more in front of the first part
+abbrev pub led : ℕ → List (List ℕ) → List (List ℕ)
+led x [] = (x ∷ []) ∷ []
+led x (p ∷ ps) = (x ∷ p) ∷ ps
+
+-- the parts of a text, between single separators; a text with none is one part, the empty text too
+unfoldable pub partsOf : ℕ → List ℕ → List (List ℕ)
+partsOf separator [] = [] ∷ []
+partsOf separator (x ∷ xs) = cond (eqb x separator) ([] ∷ partsOf separator xs) (led x (partsOf separator xs))
+
+-- the words of a string; the code of a blank is 32
+abbrev pub words : String → List (List ℕ)
+words s = partsOf 32 (text s)
+
+-- a room with a text at its start: the letters for which there is place, and what was behind them
+unfoldable pub filled : List ℕ → List ℕ → List ℕ
+filled room [] = room
+filled [] (x ∷ xs) = []
+filled (y ∷ room) (x ∷ xs) = x ∷ filled room xs
 
 -- no name is longer (`name-not-cut`)
 abbrev pub mostLetters : ℕ
@@ -25,15 +40,11 @@ mostLetters = 16
 
 -- a text as a Name: its letters, as many as there is place for, and zeros behind them
 unfoldable pub written : List ℕ → Name
-written xs = record { letters = min mostLetters (length xs); text = padded mostLetters xs }
+written xs = record { letters = min mostLetters (length xs); text = filled (replicate mostLetters 0) xs }
 
--- a number below 100 in decimal; the code of "0" is 48
-abbrev pub decimal : ℕ → List ℕ
-decimal n = cond (ltb n 10) ((48 + n) ∷ []) ((48 + n / 10) ∷ (48 + n % 10) ∷ [])
-
--- an index in square brackets, by its last two digits: the longest array has 93 places
+-- a number below 100 in decimal, in square brackets; the code of "0" is 48
 unfoldable pub index : ℕ → List ℕ
-index n = text "[" ++ (decimal (n % 100) ++ text "]")
+index n = text "[" ++ (cond (ltb n 10) ((48 + n) ∷ []) ((48 + n / 10) ∷ (48 + n % 10) ∷ []) ++ text "]")
 
 -- stem[0] .. stem[count - 1]
 unfoldable pub arrayOf : List ℕ → ℕ → List (List ℕ)
@@ -45,6 +56,6 @@ unfoldable pub gridOf : List ℕ → ℕ → ℕ → List (List ℕ)
 gridOf stem zero columns = []
 gridOf stem (suc n) columns = gridOf stem n columns ++ arrayOf (stem ++ index n) columns
 
--- each word behind the same prefix
-abbrev pub prefixed : List ℕ → List (List ℕ) → List (List ℕ)
-prefixed prefix words = map (λ (w : List ℕ). prefix ++ w) words
+-- each name behind the same prefix
+abbrev pub prefixed : String → List (List ℕ) → List (List ℕ)
+prefixed prefix names = map (λ (name : List ℕ). text prefix ++ name) names

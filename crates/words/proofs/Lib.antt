@@ -1,9 +1,8 @@
-pub mod Ahead
-pub mod Bytes
-pub mod Counted
+pub mod Contracts
 pub mod Determined
+pub mod Hex
 pub mod Laws
 pub mod Numbers
 pub mod Ranges
-pub mod Spans
+pub mod Runs
 pub mod Worked

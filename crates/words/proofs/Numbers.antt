@@ -1,15 +1,15 @@
--- Going along digits. Assumes nothing.
+-- Going along digits, and the number that they write. Assumes nothing.
 use mathlib.Core.Path.{_≡_}
 use mathlib.Core.Bool.{true, false}
 use mathlib.Core.List.{List, [], _∷_}
 use Prim.Native.Nat.{ℕ, _+_, _*_, _≤_, _<_}
-use native.Mathlib.Nat.{le-trans}
 use native.Mathlib.Numerals.{add-one}
 use native.Mathlib.Omega.{arith}
-use borrow.Author.Tests.{lt-ltb, le-ltb}
+use borrow.Author.Tests.{lt-ltb, le-ltb, le-leb, lt-leb}
 use lib.ListN.{length, getD, drop, drop-of-length-le}
 use lib.Seq.{drop-cons}
-use Rattle.words.specs.Numbers.{none, digitOf, areDigits, upTo, valueFrom, decimalOf}
+use Rattle.words.specs.declared.Number.the-variants.{Is, None}
+use Rattle.words.specs.Numbers.{digitOf, areDigits, valueFrom, decimalOf}
 
 module _ (text : List ℕ) (i : ℕ) (inside : i < length text) where
   pub digit-passed : (base : ℕ) → digitOf (getD text i 0) < base → areDigits base (drop (i + 1) text) ≡ areDigits base (drop i text)
@@ -32,30 +32,28 @@ pub no-value-left : (text : List ℕ) (value i : ℕ) → length text ≤ i → 
 unfolding valueFrom
 no-value-left text value i h = rw (drop-of-length-le text h)
 
--- digits behind a number make it no less
-value-grows : (text : List ℕ) (value : ℕ) → value ≤ valueFrom value text
+-- digits behind a number make it no less, so what is too great stays too great
+pub value-grows : (text : List ℕ) (value : ℕ) → value ≤ valueFrom value text
 unfolding valueFrom
 value-grows [] value = omega arith
 value-grows (x ∷ xs) value = omega (arith, value-grows xs (value * 10 + digitOf x))
 
--- so what is too great stays too great
-pub too-great : (text : List ℕ) (value : ℕ) → none ≤ value → upTo (valueFrom value text) ≡ none
-too-great text value h = rw (le-ltb (valueFrom value text) none (le-trans h (value-grows text value)))
-
-pub small-enough : (value : ℕ) → value < none → upTo value ≡ value
-small-enough value h = rw (lt-ltb value none h)
-
 -- ---- the number that a text is
 
 module _ (text : List ℕ) where
-  pub decimal-empty : length text ≡ 0 → none ≡ decimalOf text
+  pub empty-none : length text ≡ 0 → None ≡ decimalOf text
   unfolding decimalOf
-  decimal-empty e = rw e
+  empty-none e = rw e
 
-  pub decimal-digits : 0 < length text → areDigits 10 text ≡ true → upTo (valueFrom 0 text) ≡ decimalOf text
-  unfolding decimalOf
-  decimal-digits h e = rw (lt-ltb 0 (length text) h, e)
+  module _ (some : 0 < length text) where
+    pub others-none : areDigits 10 text ≡ false → None ≡ decimalOf text
+    unfolding decimalOf
+    others-none e = rw (lt-ltb 0 (length text) some, e)
 
-  pub decimal-others : 0 < length text → areDigits 10 text ≡ false → none ≡ decimalOf text
-  unfolding decimalOf
-  decimal-others h e = rw (lt-ltb 0 (length text) h, e)
+    pub great-none : areDigits 10 text ≡ true → 0xFFFFFFFF < valueFrom 0 text → None ≡ decimalOf text
+    unfolding decimalOf
+    great-none e h = rw (lt-ltb 0 (length text) some, e, lt-leb (valueFrom 0 text) 0xFFFFFFFF h)
+
+    pub digits-number : areDigits 10 text ≡ true → valueFrom 0 text ≤ 0xFFFFFFFF → Is (valueFrom 0 text) ≡ decimalOf text
+    unfolding decimalOf
+    digits-number e h = rw (lt-ltb 0 (length text) some, e, le-leb (valueFrom 0 text) 0xFFFFFFFF h)

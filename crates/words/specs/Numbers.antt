@@ -1,13 +1,13 @@
--- What a word stands for: a decimal number of up to 32 bits, or bytes by pairs of hexadecimal digits.
+-- What a word is: a decimal number of up to 32 bits, or bytes by pairs of hexadecimal digits.
 use Prim.Native.Nat.{ℕ, _+_, _-_, _*_, _%_}
 use mathlib.Core.Bool.{Bool, true, cond, _&&_}
 use mathlib.Core.List.{List, [], _∷_, _++_}
 use lib.ListN.{length, drop}
 use lib.Dec.{leb, ltb, eqb}
-
--- 2 to the 32nd, above every number: it is none
-abbrev pub none : ℕ
-none = 0x100000000
+use Rattle.words.specs.declared.Number.{Number}
+use Rattle.words.specs.declared.Number.the-variants.{Is, None}
+use Rattle.words.specs.declared.Bytes.{Bytes}
+use Rattle.words.specs.declared.Bytes.the-variants.{Are, NotDigits, Odd, TooMany}
 
 abbrev pub between : ℕ → ℕ → ℕ → Bool
 between low high x = leb low x && leb x high
@@ -31,12 +31,12 @@ valueFrom value [] = value
 valueFrom value (x ∷ xs) = valueFrom (value * 10 + digitOf x) xs
 
 -- a number of up to 32 bits, or none
-abbrev pub upTo : ℕ → ℕ
-upTo value = cond (ltb value none) value none
+abbrev pub upTo : ℕ → Number
+upTo value = cond (leb value 0xFFFFFFFF) (Is value) None
 
 -- the number that a text is: it has digits, and nothing else, and they write one of up to 32 bits
-unfoldable pub decimalOf : List ℕ → ℕ
-decimalOf text = cond (ltb 0 (length text) && areDigits 10 text) (upTo (valueFrom 0 text)) none
+unfoldable pub decimalOf : List ℕ → Number
+decimalOf text = cond (ltb 0 (length text) && areDigits 10 text) (upTo (valueFrom 0 text)) None
 
 -- the bytes that pairs of hexadecimal digits write
 unfoldable pub bytesOf : List ℕ → List ℕ
@@ -44,14 +44,18 @@ bytesOf [] = []
 bytesOf (high ∷ []) = []
 bytesOf (high ∷ low ∷ rest) = (digitOf high * 16 + digitOf low) ∷ bytesOf rest
 
--- a text is pairs of digits, and there is place for their bytes
-unfoldable pub fitting : List ℕ → List ℕ → Bool
-fitting text out = eqb (length text % 2) 0 && (leb (length (bytesOf text)) (length out) && areDigits 16 text)
+-- how many bytes a text's pairs write, or the first cause why it has none for `out`
+unfoldable pub pairsOf : List ℕ → List ℕ → Bytes
+pairsOf text out =
+    cond (areDigits 16 text)
+    (cond (eqb (length text % 2) 0)
+    (cond (leb (length (bytesOf text)) (length out)) (Are (length (bytesOf text))) TooMany)
+    Odd)
+    NotDigits
 
--- how many bytes the pairs write
-abbrev pub pairsTold : List ℕ → List ℕ → ℕ
-pairsTold text out = cond (fitting text out) (length (bytesOf text)) none
-
--- the bytes stand at the start, and what is behind them stays
-abbrev pub pairsLeft : List ℕ → List ℕ → List ℕ
-pairsLeft text out = cond (fitting text out) (bytesOf text ++ drop (length (bytesOf text)) out) out
+-- the bytes go to the start of `out`, and what is behind them stays; where there are none, all of it stays
+abbrev pub leftBy : Bytes → List ℕ → List ℕ → List ℕ
+leftBy (Are n) text out = bytesOf text ++ drop n out
+leftBy NotDigits text out = out
+leftBy Odd text out = out
+leftBy TooMany text out = out

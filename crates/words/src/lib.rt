@@ -1,101 +1,151 @@
-// A line's words, and what a word stands for.
+// A line's words, and what a word is: a decimal number, or bytes in hexadecimal.
 //
 // Every function answers for all input: nothing is asked of a caller.
-mod digits;
-mod places;
-
 ghost use mathlib.Core.Path.{_≡_};
-ghost use mathlib.Core.Bool.{false};
-ghost use Prim.Native.Nat.{_≤_};
-ghost use lib.ListN.{length};
-ghost use Rattle.words.specs.Spans.{spanFrom, wordsIn};
-ghost use Rattle.words.specs.Numbers.{areDigits, decimalOf, pairsTold, pairsLeft};
+ghost use Prim.Native.Nat.{_+_, _≤_};
+ghost use lib.ListN.{length, drop};
+ghost use Rattle.words.specs.Words.{ahead, wordsOf, wordOf};
+ghost use Rattle.words.specs.Numbers.{digitOf, areDigits, decimalOf, pairsOf, leftBy};
 
-// The greatest number of 32 bits.
-pub const GREATEST: usize = 0xFFFF_FFFF;
+// Space, and what is below it: tab, carriage return ..
+const LAST_BLANK: u8 = 32;
 
-// Above every number of 32 bits, and above the bytes of every text that is shorter than 2^33 letters: the word is something else.
-pub const NONE: usize = 0x1_0000_0000;
-
-// Where a word stands in its text.
-pub struct Span {
-    pub from: usize,
-    pub to: usize,
+// A number of up to 32 bits, or none.
+pub enum Number {
+    Is(u32),
+    None,
 }
 
-// Word number n, counted from 0; where there are not so many, an empty one at the text's end. Words are parted by blanks: any
-// number of bytes up to 32, ahead of the first and behind the last too.
-pub fn nth(text: &[u8], n: usize) -> Span
-    ensures { λ r. ⌜ r ≡ spanFrom (now (text .entry)) 0 n ⌝ }
-    ensures { λ r. ⌜ (r .from ≤ r .to) × (r .to ≤ length (now (text .entry))) ⌝ }
+// So many bytes, or why the text is none: another letter, a digit too few, more bytes than there is place for.
+pub enum Bytes {
+    Are(usize),
+    NotDigits,
+    Odd,
+    TooMany,
+}
+
+// Word number n of a line, counted from 0; where there are not so many, an empty one. Blanks part words: any number of bytes up to
+// 32, ahead of the first and behind the last too.
+pub fn word(line: &[u8], n: usize) -> &[u8]
+    ensures { λ r. ⌜ now r ≡ wordOf n (now (line .entry)) ⌝ }
+    ensures { λ _. ⌜ now (line .exit) ≡ now (line .entry) ⌝ }
 {
-    let mut at = 0;
-    let mut passed = 0;
-    while passed < n {
-        if at == text.len() {
-            return Span { from: at, to: at };
+    let mut left = n;
+    let mut from = run_end(line, 0, false);
+    while from < line.len() {
+        let to = run_end(line, from, true);
+        if left == 0 {
+            return &line[from..to];
         }
-        at = places::word_end(text, places::blanks_end(text, at));
-        passed += 1;
+        left -= 1;
+        from = run_end(line, to, false);
     }
-    let from = places::blanks_end(text, at);
-    let to = places::word_end(text, from);
-    Span { from, to }
+    &line[0..0]
 }
 
-// How many words there are.
-pub fn count(text: &[u8]) -> usize
-    ensures { λ r. ⌜ r ≡ wordsIn false (now (text .entry)) ⌝ }
+// How many words a line has.
+pub fn count(line: &[u8]) -> usize
+    ensures { λ r. ⌜ r ≡ length (wordsOf (now (line .entry))) ⌝ }
+    ensures { λ _. ⌜ now (line .exit) ≡ now (line .entry) ⌝ }
 {
     let mut words = 0;
-    let mut inside = false;
-    let mut i = 0;
-    while i < text.len() {
-        let letter = places::is_letter(text[i]);
-        words += places::begins(inside, letter);
-        inside = letter;
-        i += 1;
+    let mut at = run_end(line, 0, false);
+    while at < line.len() {
+        words += 1;
+        at = run_end(line, run_end(line, at, true), false);
     }
     words
+}
+
+// Where the letters from `at` on end, or the blanks.
+fn run_end(text: &[u8], at: usize, letters: bool) -> usize
+    requires { ⌜ at ≤ length (now text) ⌝ }
+    ensures { λ r. ⌜ r ≡ at + ahead letters (drop at (now (text .entry))) ⌝ }
+    ensures { λ r. ⌜ r ≤ length (now (text .entry)) ⌝ }
+{
+    let mut end = at;
+    while end < text.len() {
+        if (LAST_BLANK < text[end]) != letters {
+            return end;
+        }
+        end += 1;
+    }
+    end
 }
 
 // Whether each letter is a digit of that base, up to 16; an empty text has none that is not.
 pub fn are_digits(text: &[u8], base: u8) -> bool
     ensures { λ r. ⌜ r ≡ areDigits base (now (text .entry)) ⌝ }
+    ensures { λ _. ⌜ now (text .exit) ≡ now (text .entry) ⌝ }
 {
-    digits::are(text, base)
+    let mut i = 0;
+    while i < text.len() {
+        if base <= digit(text[i]) {
+            return false;
+        }
+        i += 1;
+    }
+    true
 }
 
-// The decimal number of up to 32 bits that the text is; NONE where it is none: an empty text, another letter, too great a number.
-// Zeros may lead.
-pub fn decimal(text: &[u8]) -> usize
+// The number of up to 32 bits that decimal digits write, one or more; zeros may lead.
+pub fn decimal(text: &[u8]) -> Number
     ensures { λ r. ⌜ r ≡ decimalOf (now (text .entry)) ⌝ }
+    ensures { λ _. ⌜ now (text .exit) ≡ now (text .entry) ⌝ }
 {
     if text.len() == 0 {
-        return NONE;
+        return Number::None;
     }
-    if digits::are(text, 10) {
-        return digits::value(text);
+    if !are_digits(text, 10) {
+        return Number::None;
     }
-    NONE
+    let mut value: u64 = 0;
+    let mut i = 0;
+    while i < text.len() {
+        value = value * 10 + digit(text[i]) as u64;
+        if 0xFFFF_FFFF < value {
+            return Number::None;
+        }
+        i += 1;
+    }
+    let number = value as u32;
+    Number::Is(number)
 }
 
-// Pairs of hexadecimal digits, either case: their bytes go to the start of `out`, later bytes stay, and the answer is how many they
-// are. Where the text's length is odd, or a letter is no digit, or `out` is too short, the answer is NONE and `out` stays.
-pub fn pairs(text: &[u8], out: &mut [u8]) -> usize
-    ensures { λ r. ⌜ r ≡ pairsTold (now (text .entry)) (now (out .entry)) ⌝ }
-    ensures { λ _. ⌜ now (out .exit) ≡ pairsLeft (now (text .entry)) (now (out .entry)) ⌝ }
+// The bytes that pairs of hexadecimal digits write, of either case. They go to the start of `out`, and later bytes stay. Where the text
+// is something else, or `out` has no place for them, all of it stays.
+pub fn pairs(text: &[u8], out: &mut [u8]) -> Bytes
+    ensures { λ r. ⌜ r ≡ pairsOf (now (text .entry)) (now (out .entry)) ⌝ }
+    ensures { λ _. ⌜ now (text .exit) ≡ now (text .entry) ⌝ }
+    ensures { λ r. ⌜ now (out .exit) ≡ leftBy r (now (text .entry)) (now (out .entry)) ⌝ }
 {
-    let n = text.len() / 2;
+    if !are_digits(text, 16) {
+        return Bytes::NotDigits;
+    }
     if text.len() % 2 == 1 {
-        return NONE;
+        return Bytes::Odd;
     }
+    let n = text.len() / 2;
     if out.len() < n {
-        return NONE;
+        return Bytes::TooMany;
     }
-    if digits::are(text, 16) {
-        digits::put_pairs(text, out);
-        return n;
+    let mut i = 0;
+    while i < n {
+        out[i] = digit(text[2 * i]) * 16 + digit(text[2 * i + 1]);
+        i += 1;
     }
-    NONE
+    Bytes::Are(n)
+}
+
+// A digit's value; 16 for what is no digit.
+fn digit(letter: u8) -> u8
+    ensures { λ r. ⌜ r ≡ digitOf letter ⌝ }
+    ensures { λ r. ⌜ r ≤ 16 ⌝ }
+{
+    match letter {
+        b'0'..=b'9' => letter - b'0',
+        b'A'..=b'F' => letter - b'A' + 10,
+        b'a'..=b'f' => letter - b'a' + 10,
+        _ => 16,
+    }
 }

@@ -1,7 +1,7 @@
 //! Frames damaged anywhere, cut, lengthened, mislabelled and offered as another satellite's.
 
-use crate::making::{all_rows, is_long, Maker};
-use crate::second::{Row, TABLE};
+use crate::drawing::{all_rows, is_long, Maker};
+use crate::rules::table::{Row, TABLE};
 
 fn fitting_edit(maker: &mut Maker, satellite: u32, row: &Row, frame: &[u8]) {
     let field = maker.between(0, row.fields() - 1);
@@ -12,7 +12,12 @@ fn fitting_edit(maker: &mut Maker, satellite: u32, row: &Row, frame: &[u8]) {
 fn each_byte(maker: &mut Maker) {
     for (satellite, sender, row) in all_rows() {
         let right = maker.right_frame(sender, row);
+        let body = sender.type_place() + 1..right.len() - 2;
         for place in 0..right.len() {
+            let left_out = is_long(row) && body.contains(&place) && place % 3 != 0;
+            if left_out || !maker.has_turn(satellite, row, place) {
+                continue;
+            }
             let mut frame = right.clone();
             frame[place] ^= if place % 2 == 0 { 1 << maker.between(0, 7) } else { maker.change() };
             maker.read(satellite, row.fields(), &frame);
@@ -47,10 +52,13 @@ fn other_checksums(maker: &mut Maker, satellite: u32, row: &Row) {
     let mut frame = maker.right_frame(&TABLE[satellite as usize], row);
     let end = frame.len() - 2;
     let (high, low) = (frame[end], frame[end + 1]);
-    for sum in [[0, 0], [255, 255], [!high, !low], [low, high], [high, 0], [0, low]] {
-        frame[end..].copy_from_slice(&sum);
-        maker.read(satellite, row.fields(), &frame);
-        fitting_edit(maker, satellite, row, &frame);
+    let sums = [[0, 0], [255, 255], [!high, !low], [low, high], [high, 0], [0, low]];
+    for (k, sum) in sums.into_iter().enumerate() {
+        if maker.has_turn(satellite, row, k) {
+            frame[end..].copy_from_slice(&sum);
+            maker.read(satellite, row.fields(), &frame);
+            fitting_edit(maker, satellite, row, &frame);
+        }
     }
 }
 
@@ -73,32 +81,29 @@ pub fn damaged(maker: &mut Maker) {
     for (satellite, _, row) in all_rows().filter(|(_, _, row)| !is_long(row)) {
         other_checksums(maker, satellite, row);
     }
-    maker.heading("damage: one byte changed, each byte of each row's frame");
+    maker.heading("damage: one byte changed, each byte of each row's frame, of a long body each third");
     each_byte(maker);
     maker.heading("damage: two frames of a row spliced");
-    for (satellite, _, row) in all_rows() {
-        for _ in 0..3 {
-            let frame = spliced(maker, satellite, row);
-            maker.read(satellite, row.fields(), &frame);
-        }
-        let frame = spliced(maker, satellite, row);
-        fitting_edit(maker, satellite, row, &frame);
-    }
+    damaged_by(maker, spliced);
     maker.heading("damage: two bytes of a frame swapped");
+    damaged_by(maker, swapped);
+}
+
+fn damaged_by(maker: &mut Maker, damage: fn(&mut Maker, u32, &Row) -> Vec<u8>) {
     for (satellite, _, row) in all_rows() {
-        for _ in 0..3 {
-            let frame = swapped(maker, satellite, row);
-            maker.read(satellite, row.fields(), &frame);
+        let frame = damage(maker, satellite, row);
+        maker.read(satellite, row.fields(), &frame);
+        if maker.has_turn(satellite, row, 0) {
+            let frame = damage(maker, satellite, row);
+            fitting_edit(maker, satellite, row, &frame);
         }
-        let frame = swapped(maker, satellite, row);
-        fitting_edit(maker, satellite, row, &frame);
     }
 }
 
 pub fn lengths(maker: &mut Maker) {
-    maker.heading("lengths 0 to 200 for every satellite: the front of a right frame, or one with bytes behind it");
+    maker.heading("lengths 0 to 200, above 40 by the satellites in turn: the front of a right frame, or one with bytes behind it");
     for (satellite, sender) in (0u32..).zip(&TABLE) {
-        for length in 0..=200 {
+        for length in (0..=200).filter(|&length| length <= 40 || length % 7 == satellite as usize) {
             let row = &sender.rows[length % sender.rows.len()];
             let mut frame = maker.right_frame(sender, row);
             maker.resize(&mut frame, length);
@@ -114,7 +119,8 @@ fn types_and_addresses(maker: &mut Maker) {
     for (satellite, sender) in (0u32..).zip(&TABLE) {
         for number in 0..16 {
             let row = sender.row(number);
-            for address in 0..16 {
+            let is_taken = |&address: &u8| address == sender.address || (number + u32::from(address) + satellite) % 4 == 0;
+            for address in (0..16).filter(is_taken) {
                 let bytes = row.map_or_else(|| maker.between(3, 9), |row| row.bytes);
                 let frame = maker.frame(sender, number, address, bytes);
                 maker.read(satellite, row.map_or(10, Row::fields), &frame);
@@ -124,11 +130,13 @@ fn types_and_addresses(maker: &mut Maker) {
 }
 
 fn other_satellites(maker: &mut Maker) {
-    for (_, sender, row) in all_rows() {
+    for (number, sender, row) in all_rows() {
         let frame = maker.right_frame(sender, row);
         for satellite in 0..7 {
-            maker.read(satellite, row.fields(), &frame);
-            if !is_long(row) {
+            if !is_long(row) || maker.has_turn(number, row, 0) {
+                maker.read(satellite, row.fields(), &frame);
+            }
+            if !is_long(row) && maker.has_turn(number, row, satellite as usize) {
                 fitting_edit(maker, satellite, row, &frame);
             }
         }
@@ -138,7 +146,9 @@ fn other_satellites(maker: &mut Maker) {
 fn all_sizes(maker: &mut Maker) {
     for (satellite, sender, row) in all_rows().filter(|(_, sender, _)| sender.has_size) {
         let mut frame = maker.right_frame(sender, row);
-        for size in 0..=255 {
+        let is_first = row.number == sender.rows[0].number;
+        let is_near = |size: u8| sender.rows.iter().any(|any| any.bytes.abs_diff(usize::from(size)) < 2);
+        for size in (0..=255u8).filter(|&size| is_first || is_near(size) || u32::from(size) % 8 == row.number % 8) {
             frame[sender.type_place() - 1] = size;
             maker.read(satellite, row.fields(), &frame);
             if size % 16 == 1 {
@@ -149,10 +159,10 @@ fn all_sizes(maker: &mut Maker) {
 }
 
 pub fn mislabelled(maker: &mut Maker) {
-    maker.heading("types and addresses: all 16 of each for every satellite");
+    maker.heading("types and addresses: all 16 of each for every satellite, its own address with all types");
     types_and_addresses(maker);
     maker.heading("satellites: each row's frame offered as each of the seven");
     other_satellites(maker);
-    maker.heading("sizes: all 256 size bytes for each type of HADES-SA");
+    maker.heading("sizes: all 256 size bytes for type 2 of HADES-SA, some for each other type");
     all_sizes(maker);
 }

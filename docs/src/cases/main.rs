@@ -2,20 +2,24 @@
 
 mod asked;
 mod damage;
-mod making;
+mod drawing;
+mod leaves;
+mod lines;
 mod mixed;
 mod numbers;
 mod offences;
 mod rows;
-#[path = "../second.rs"]
-mod second;
+#[allow(dead_code)]
+#[path = "../rules/mod.rs"]
+mod rules;
+mod words;
 
-use making::Maker;
+use drawing::Maker;
 use std::io::Read;
 use std::process::ExitCode;
 
 const DEFAULT_SEED: u64 = 1;
-const DEFAULT_COUNT: u64 = 24_000;
+const DEFAULT_COUNT: u64 = 11_000;
 
 const USAGE: &str = "usage: cases [SEED [COUNT]]
        cases answer < CALLS
@@ -49,6 +53,8 @@ fn print_answers() -> Result<(), String> {
 fn print_all(seed: u64, count: u64) -> Result<(), String> {
     let mut maker = Maker::new(seed);
     asked::answer(&mut maker, asked::PICKED)?;
+    asked::answer(&mut maker, asked::LEAVES)?;
+    leaves::drawn(&mut maker);
     rows::accepted_rows(&mut maker);
     rows::both_ends(&mut maker);
     rows::edits(&mut maker);

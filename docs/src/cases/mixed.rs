@@ -1,9 +1,10 @@
 //! Any call, satellites mostly 0 to 6, frames mostly nearly right; and controls.
 
-use crate::making::Maker;
+use crate::drawing::Maker;
+use crate::leaves::any_leaf;
 use crate::numbers::{codes, spoil};
 use crate::offences::{can_be_had, frame_call, write_call, FrameCall, EDITING, READING, WRITING};
-use crate::second::{Row, TABLE};
+use crate::rules::table::{Row, TABLE};
 
 /// None, one or two offences that the satellite can have together.
 fn offences(maker: &mut Maker, tests: &[u32], satellite: u32) -> Vec<u32> {
@@ -132,9 +133,9 @@ fn another(character: char) -> char {
 }
 
 /// A line whose answer is wrong in one place, with a mark ahead: who compares must tell the two apart.
-fn control(maker: &mut Maker) {
+fn control(maker: &mut Maker, call: fn(&mut Maker)) {
     maker.flush();
-    any_call(maker);
+    call(maker);
     let line = std::mem::take(&mut maker.text);
     let answer = line.find(" | ").map_or(0, |bar| bar + 3);
     let place = maker.between(answer, line.len() - 2);
@@ -145,7 +146,7 @@ fn control(maker: &mut Maker) {
 
 pub fn controls(maker: &mut Maker) {
     maker.heading("controls: one character of the answer is wrong on purpose");
-    for _ in 0..200 {
-        control(maker);
+    for k in 0..120 {
+        control(maker, if k % 6 == 5 { any_leaf } else { any_call });
     }
 }

@@ -1,7 +1,8 @@
 //! Satellites and types far out of range, temperatures, and days of frames.
 
-use crate::making::{all_rows, frame_length, written, Maker};
-use crate::second::TABLE;
+use crate::drawing::{all_rows, written, Maker};
+use crate::rules::table::TABLE;
+use crate::rules::temperatures::first_temperature;
 
 /// Cut to fewer bits, many of these would be a satellite's number.
 const FAR: [u32; 14] = [
@@ -16,9 +17,11 @@ fn far_satellites(maker: &mut Maker) {
             let row = &sender.rows[turn % sender.rows.len()];
             let values = maker.digits(row);
             let frame = written(satellite, row, &values);
-            maker.read(far, values.len(), &frame);
-            maker.write(far, row.number, frame.len(), &values);
-            maker.edit(far, 0, values[0], &frame);
+            match (turn + satellite as usize) % 3 {
+                0 => maker.read(far, values.len(), &frame),
+                1 => maker.write(far, row.number, frame.len(), &values),
+                _ => maker.edit(far, 0, values[0], &frame),
+            }
         }
     }
 }
@@ -27,12 +30,14 @@ fn far_satellites(maker: &mut Maker) {
 fn far_types(maker: &mut Maker) {
     for (satellite, sender) in (0u32..).zip(&TABLE) {
         let mut numbers: Vec<u32> = (0..=17).chain([256 + 2, 65536 + 2, u32::MAX]).collect();
-        let high = [16, 240, 256, 65536, 1 << 28, 1 << 31];
-        numbers.extend(sender.rows.iter().flat_map(|row| high.map(|high| high + row.number)));
+        for (k, high) in [16, 240, 256, 65536, 1 << 28, 1 << 31].into_iter().enumerate() {
+            let rows = sender.rows.iter().filter(|row| maker.has_turn(satellite, row, k));
+            numbers.extend(rows.map(|row| high + row.number));
+        }
         for number in numbers {
             let row = sender.row(number & 15).unwrap_or(&sender.rows[0]);
             let values = maker.digits(row);
-            maker.write(satellite, number, frame_length(sender, row), &values);
+            maker.write(satellite, number, sender.frame_length(row), &values);
         }
     }
 }
@@ -88,7 +93,7 @@ fn accepted_summaries(maker: &mut Maker) {
         maker.summary(&codes.iter().map(|code| code.min(&80)).copied().collect::<Vec<u32>>());
     }
     maker.heading("summaries: drawn, with many sensor errors");
-    for _ in 0..200 {
+    for _ in 0..100 {
         let codes = codes(maker, 10);
         maker.summary(&codes);
     }
@@ -142,10 +147,9 @@ pub fn days(maker: &mut Maker) {
     for (satellite, sender, row) in all_rows() {
         let mut frame = maker.right_frame(sender, row);
         if row.number == 2 {
-            for _ in 0..8 {
+            for _ in 0..5 {
                 let mut values = maker.wide_values(row);
-                let first = values.len() - 10;
-                values.truncate(first);
+                values.truncate(first_temperature(row.fields()));
                 values.extend(codes(maker, 10));
                 maker.day(satellite, &written(satellite, row, &values));
             }

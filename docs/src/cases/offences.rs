@@ -9,23 +9,41 @@
 //! or 5 no row is known: there the other offence is one against every row, in a frame or call that was made for the
 //! satellite which the number's low bits (or its remainder) give.
 
-use crate::making::{all_rows, frame_length, is_long, Maker};
-use crate::second::{Row, Satellite, TABLE};
+use crate::drawing::{all_rows, is_long, Maker};
+use crate::rules::table::{Row, Satellite, TABLE};
 
-/// 01, "What is refused, and in which order": the tests in their order.
+/// Which offences each call can have. Only membership counts: the order here is that in which cases are made, and says nothing about
+/// which of two offences is refused, which the rules alone decide.
 pub const READING: [u32; 9] = [1, 2, 3, 4, 5, 6, 7, 8, 9];
 pub const EDITING: [u32; 10] = [1, 2, 3, 4, 5, 6, 7, 9, 13, 11];
 pub const WRITING: [u32; 5] = [1, 5, 10, 11, 12];
 
-/// HADES-SA, the one with a size byte.
-const SIZED: u32 = 6;
-/// No row has a field 95, as few as 2 fields, or a field 1 of more than 16 bits.
-const FIELD_OF_NONE: usize = 95;
-const ROOM_FOR_NONE: usize = 2;
-const WIDEST_FIELD_1: usize = 16;
-/// The shortest head has 11 bytes, the shortest frame 23 (01, "Either side of the edge").
-const HEAD_OF_NONE: usize = 10;
-const OUTPUT_FOR_NONE: usize = 22;
+fn least_of_rows(number: fn(&Satellite, &Row) -> usize) -> usize {
+    all_rows().map(|(_, sender, row)| number(sender, row)).min().expect("a row")
+}
+
+fn most_of_rows(number: fn(&Satellite, &Row) -> usize) -> usize {
+    all_rows().map(|(_, sender, row)| number(sender, row)).max().expect("a row")
+}
+
+/// The first field number that no row has.
+fn field_of_none() -> usize {
+    most_of_rows(|_, row| row.fields())
+}
+
+/// Every row has a field 1, and none one of 32 bits.
+fn widest_field_1() -> usize {
+    most_of_rows(|_, row| row.widths().nth(1).expect("a field 1"))
+}
+
+/// The most places, and the most bytes, that are too few for every row.
+fn room_for_none() -> usize {
+    least_of_rows(|_, row| row.fields()) - 1
+}
+
+fn output_for_none() -> usize {
+    least_of_rows(Satellite::frame_length) - 1
+}
 
 pub fn can_be_had(one: u32, other: u32) -> bool {
     !matches!((one.min(other), one.max(other)), (2, 4) | (2, 5) | (2, 9) | (11, 13))
@@ -91,12 +109,12 @@ fn other_size(maker: &mut Maker, row: &Row, for_all: bool) -> u8 {
 /// A length that is not the frame's (no frame's at all), with room for the head, and for a checksum that is wrong.
 fn other_length(maker: &mut Maker, sender: &Satellite, row: &Row, offences: &[u32]) -> usize {
     let for_all = row_unknown(offences);
-    let right = frame_length(sender, row);
+    let right = sender.frame_length(row);
     let least = sender.type_place() + if offences.contains(&9) { 3 } else { 1 };
     loop {
         let drawn = maker.between(least, (right + 20).min(200));
         let length = maker.one_of(&[right - 1, right + 1, right - 2, right + 2, least, drawn]);
-        let owned = for_all && all_rows().any(|(_, any, row)| frame_length(any, row) == length);
+        let owned = for_all && all_rows().any(|(_, any, row)| any.frame_length(row) == length);
         if !owned && length != right {
             return length;
         }
@@ -105,7 +123,7 @@ fn other_length(maker: &mut Maker, sender: &Satellite, row: &Row, offences: &[u3
 
 fn short_length(maker: &mut Maker, sender: &Satellite, offences: &[u32], damaged: usize) -> usize {
     let last = sender.type_place();
-    let most = if offences.contains(&1) { HEAD_OF_NONE } else { last };
+    let most = if offences.contains(&1) { least_of_rows(|any, _| any.type_place()) } else { last };
     let least = if offences.contains(&3) { damaged + 1 } else { 0 };
     if offences.contains(&6) {
         return last;
@@ -124,7 +142,7 @@ fn wrong_checksum(maker: &mut Maker, sender: &Satellite, frame: &mut [u8]) {
 /// The frame with its offences; `turn` says which byte of training and sync is damaged.
 fn offending_frame(maker: &mut Maker, sender: &Satellite, row: &Row, offences: &[u32], turn: usize) -> Vec<u8> {
     let has = |offence: u32| offences.contains(&offence);
-    let (start, right) = (sender.type_place(), frame_length(sender, row));
+    let (start, right) = (sender.type_place(), sender.frame_length(row));
     let number = if has(5) { other_type(maker, sender, has(1)) } else { row.number };
     let address = if has(4) { other_address(maker, sender, has(1)) } else { sender.address };
     let length = if has(7) && !has(2) { other_length(maker, sender, row, offences) } else { right };
@@ -160,17 +178,17 @@ pub fn frame_call(maker: &mut Maker, satellite: u32, row: &Row, offences: &[u32]
     let mut room = count + maker.one_of(&[0, 0, 1, 5]);
     if has(8) {
         let drawn = maker.between(0, count - 1);
-        room = if for_all { maker.between(0, ROOM_FOR_NONE) } else { maker.one_of(&[0, count - 1, drawn]) };
+        room = if for_all { maker.between(0, room_for_none()) } else { maker.one_of(&[0, count - 1, drawn]) };
     }
     let mut field = maker.between(0, count - 1) as u32;
     let mut value = maker.value(row.widths().nth(field as usize).unwrap_or(0));
     if has(13) {
-        let least = if for_all { FIELD_OF_NONE } else { count } as u32;
+        let least = if for_all { field_of_none() } else { count } as u32;
         field = maker.one_of(&[least, least + 1, least + 7, 256, 256 + field, u32::MAX]);
         value = maker.one_of(&[0, 1, value, u32::MAX]);
     } else if has(11) {
         field = if for_all { 1 } else { maker.narrow_field(row) };
-        let width = if for_all { WIDEST_FIELD_1 } else { row.widths().nth(field as usize).unwrap_or(0) };
+        let width = if for_all { widest_field_1() } else { row.widths().nth(field as usize).unwrap_or(0) };
         value = maker.misfit(width);
     }
     let satellite = if has(1) { above_six(maker, satellite) } else { satellite };
@@ -201,36 +219,42 @@ pub fn write_call(maker: &mut Maker, satellite: u32, row: &Row, offences: &[u32]
         values.resize(other_count(maker, row, for_all, least), 0);
     }
     if has(11) {
-        let width = if for_all { WIDEST_FIELD_1 } else { row.widths().nth(field).unwrap_or(0) };
+        let width = if for_all { widest_field_1() } else { row.widths().nth(field).unwrap_or(0) };
         values[field] = maker.misfit(width);
     }
-    let length = frame_length(sender, row);
+    let length = sender.frame_length(row);
     let mut output = length + maker.one_of(&[0, 0, 1, 5]);
     if has(12) {
         let drawn = maker.between(0, length - 1);
-        output = if for_all { drawn % (OUTPUT_FOR_NONE + 1) } else { maker.one_of(&[0, length - 1, drawn]) };
+        output = if for_all { drawn % (output_for_none() + 1) } else { maker.one_of(&[0, length - 1, drawn]) };
     }
     let satellite = if has(1) { above_six(maker, satellite) } else { satellite };
     WriteCall { satellite, number, output, values }
 }
 
-/// Runs over the rows, with a pair over the long rows of one satellite only; with offence 3 over every byte of training
-/// and sync, most of them in the first, short row.
+/// Which bytes of training and sync are damaged in turn. By itself offence 3 damages all of them, in the first two rows, which are
+/// short. In other rows and in a pair it damages three, others in each row.
+fn turns(satellite: u32, sender: &Satellite, place: usize, offences: &[u32]) -> std::ops::Range<usize> {
+    let heads = sender.training + 2;
+    let in_pair = (5 * satellite as usize + 7 * place + 3 * offences.iter().sum::<u32>() as usize) % heads;
+    match (offences.contains(&3), offences.len(), place) {
+        (true, 1, 0) => 0..heads - 4,
+        (true, 1, 1) => heads - 4..heads,
+        (true, ..) => in_pair..in_pair + 3,
+        _ => 0..if offences.contains(&6) { 5 } else { 1 },
+    }
+}
+
+/// Runs over the rows. A pair takes the long rows of one satellite, and every second of the others.
 fn over_rows(maker: &mut Maker, offences: &[u32], make: fn(&mut Maker, u32, &Row, &[u32], usize)) {
-    let has = |offence: u32| offences.contains(&offence);
+    let sum: u32 = offences.iter().sum();
     for (satellite, sender, row) in all_rows() {
-        let long_one = is_long(row) && offences.iter().sum::<u32>() % 5 + 1 != satellite;
-        if has(6) && satellite != SIZED || offences.len() > 1 && long_one {
+        let place = sender.rows.iter().position(|any| any.number == row.number).unwrap_or(0);
+        let left_out = if is_long(row) { sum % 5 + 1 != satellite } else { (place as u32 + satellite + sum) % 2 == 1 };
+        if offences.contains(&6) && !sender.has_size || offences.len() > 1 && left_out {
             continue;
         }
-        let place = sender.rows.iter().position(|any| any.number == row.number).unwrap_or(0);
-        let heads = sender.training + 2;
-        let turns = match (has(3), place) {
-            (true, 0) => 0..heads - 4,
-            (true, 1) => heads - 4..heads,
-            _ => 0..if has(6) { 5 } else { 1 },
-        };
-        for turn in turns {
+        for turn in turns(satellite, sender, place, offences) {
             make(maker, satellite, row, offences, turn);
         }
     }

@@ -1,7 +1,9 @@
-//! Each row of 01's table written, read and edited, with values at both ends of each width.
+//! Each row of 01's table written, read and edited, with values at both ends of each width. What all senders of a row would do alike
+//! is done by them in turn.
 
-use crate::making::{all_greatest, all_rows, frame_length, greatest, written, Maker};
-use crate::second::{Row, Satellite};
+use crate::drawing::{all_greatest, all_rows, is_long, values_of, written, Maker};
+use crate::rules::leaves::greatest;
+use crate::rules::table::{Row, Satellite};
 
 /// The numbers a wrongly kept field number, or one behind the last, would be.
 fn fields_that_are_none(count: u32, field: u32) -> [u32; 8] {
@@ -21,8 +23,7 @@ fn accepted_values(maker: &mut Maker, satellite: u32, row: &Row, values: &[u32],
 /// A frame that no writer made: its values are read, written, and must give it back.
 fn accepted_body(maker: &mut Maker, satellite: u32, sender: &Satellite, row: &Row) {
     let frame = maker.right_frame(sender, row);
-    let mut values = vec![0; row.fields()];
-    crate::second::read(satellite, &frame, &mut values);
+    let values = values_of(satellite, row, &frame);
     maker.read(satellite, values.len(), &frame);
     maker.write(satellite, row.number, frame.len(), &values);
 }
@@ -30,30 +31,36 @@ fn accepted_body(maker: &mut Maker, satellite: u32, sender: &Satellite, row: &Ro
 fn accepted(maker: &mut Maker) {
     maker.heading("accepted: every satellite and type written, read, edited, with rooms and outputs exact and longer");
     for (satellite, sender, row) in all_rows() {
-        accepted_values(maker, satellite, row, &vec![0; row.fields()], 0);
-        accepted_values(maker, satellite, row, &all_greatest(row), 0);
-        for longer in [0, 1, maker.between(2, 9)] {
-            let values = maker.short_values(row);
-            accepted_values(maker, satellite, row, &values, longer);
+        let (drawn, short, any) = (maker.wide_values(row), maker.short_values(row), maker.short_values(row));
+        let longer = maker.between(2, 9);
+        let sets = [(vec![0; row.fields()], 0), (all_greatest(row), 0), (drawn, 0), (short, longer)];
+        for (k, (values, longer)) in sets.iter().enumerate() {
+            if maker.has_turn(satellite, row, k) {
+                accepted_values(maker, satellite, row, values, *longer);
+            }
         }
-        let values = maker.wide_values(row);
-        accepted_values(maker, satellite, row, &values, 0);
+        accepted_values(maker, satellite, row, &any, 1);
         accepted_body(maker, satellite, sender, row);
     }
 }
 
 fn shorter(maker: &mut Maker) {
-    maker.heading("accepted but for the buffer: every satellite and type, rooms and outputs longer, exact and shorter");
+    maker.heading("accepted but for the buffer: every type, rooms and outputs longer, exact and shorter");
     for (satellite, sender, row) in all_rows() {
-        let (count, length) = (row.fields(), frame_length(sender, row));
+        let (count, length) = (row.fields(), sender.frame_length(row));
         let frame = maker.right_frame(sender, row);
-        for room in [0, 1, count / 2, count - 2, count - 1, 200] {
-            maker.read(satellite, room, &frame);
+        for (k, room) in [0, 1, count / 2, count - 2, count - 1, 200].into_iter().enumerate() {
+            if maker.has_turn(satellite, row, k) {
+                maker.read(satellite, room, &frame);
+            }
         }
         let values = maker.digits(row);
         let start = sender.type_place();
-        for output in [0, 1, start, start + 1, length - 2, length - 1, length, length + 1, 255] {
-            maker.write(satellite, row.number, output, &values);
+        let outputs = [0, 1, start, start + 1, length - 2, length - 1, length, length + 1, 255];
+        for (k, output) in outputs.into_iter().enumerate() {
+            if maker.has_turn(satellite, row, k) {
+                maker.write(satellite, row.number, output, &values);
+            }
         }
     }
 }
@@ -63,25 +70,35 @@ pub fn accepted_rows(maker: &mut Maker) {
     shorter(maker);
 }
 
+/// Of a long row the first field and every third, the last among them: the others are as wide as their neighbours.
+fn is_taken(row: &Row, field: usize) -> bool {
+    !is_long(row) || field == 0 || (row.fields() - 1 - field) % 3 == 0
+}
+
 /// Writes, for each field of each row that is at most so wide, what `change` makes of the row's values.
 fn each_field(maker: &mut Maker, widest: usize, change: fn(&mut Maker, &Row, usize, usize) -> Vec<u32>) {
     for (satellite, sender, row) in all_rows() {
         for (field, width) in row.widths().enumerate().filter(|&(_, width)| width <= widest) {
-            let values = change(maker, row, field, width);
-            maker.write(satellite, row.number, frame_length(sender, row), &values);
+            if maker.has_turn(satellite, row, field) && is_taken(row, field) {
+                let values = change(maker, row, field, width);
+                maker.write(satellite, row.number, sender.frame_length(row), &values);
+            }
         }
     }
 }
 
 fn several_too_large(maker: &mut Maker) {
     for (satellite, sender, row) in all_rows() {
-        for _ in 0..8 {
+        for k in 0..8 {
+            if !maker.has_turn(satellite, row, k) {
+                continue;
+            }
             let mut values = maker.digits(row);
             for _ in 0..maker.between(2, 4) {
                 let field = maker.narrow_field(row) as usize;
                 values[field] = u32::MAX - maker.between(0, 9) as u32;
             }
-            maker.write(satellite, row.number, frame_length(sender, row), &values);
+            maker.write(satellite, row.number, sender.frame_length(row), &values);
         }
     }
 }
@@ -115,45 +132,43 @@ pub fn both_ends(maker: &mut Maker) {
     several_too_large(maker);
 }
 
-/// Which of a row's senders a satellite is, and how many there are: what is long is done by them in turn.
-fn turn(satellite: u32, row: &Row) -> (usize, usize) {
-    let alike = |any: &Row| any.number == row.number && any.runs == row.runs;
-    let senders: Vec<u32> = all_rows().filter(|(_, _, any)| alike(any)).map(|(number, _, _)| number).collect();
-    (senders.iter().position(|&number| number == satellite).unwrap_or(0), senders.len())
+/// A field to a drawn value, and to the value it has, one too large, 0 and the greatest; of a long row at most one of these four. One
+/// too large for 32 bits is 0.
+fn edit_field(maker: &mut Maker, satellite: u32, row: &Row, frame: &[u8], (field, width, has): (usize, usize, u32)) {
+    let changed = if width == 1 { 1 - has } else { maker.draw() as u32 & greatest(width) };
+    maker.edit(satellite, field as u32, changed, frame);
+    for (k, value) in [has, greatest(width).wrapping_add(1), 0, greatest(width)].into_iter().enumerate() {
+        if !is_long(row) || field % 8 == 2 * k {
+            maker.edit(satellite, field as u32, value, frame);
+        }
+    }
 }
 
 fn edit_each_field(maker: &mut Maker) {
     for (satellite, sender, row) in all_rows() {
         let frame = maker.right_frame(sender, row);
-        let mut values = vec![0; row.fields()];
-        crate::second::read(satellite, &frame, &mut values);
-        let (own, senders) = turn(satellite, row);
+        let values = values_of(satellite, row, &frame);
         for (field, width) in row.widths().enumerate() {
-            let (number, has) = (field as u32, values[field]);
-            let changed = if width == 1 { 1 - has } else { maker.draw() as u32 & greatest(width) };
-            maker.edit(satellite, number, changed, &frame);
-            maker.edit(satellite, number, has, &frame);
-            if width < 32 {
-                maker.edit(satellite, number, greatest(width) + 1, &frame);
-            }
-            if field % senders == own {
-                maker.edit(satellite, number, 0, &frame);
-                maker.edit(satellite, number, greatest(width), &frame);
+            if maker.has_turn(satellite, row, field) {
+                edit_field(maker, satellite, row, &frame, (field, width, values[field]));
             }
         }
     }
 }
 
 pub fn edits(maker: &mut Maker) {
-    maker.heading("edits: each field to a drawn value, the value it has, one too large; in turn to 0 and the greatest");
+    maker.heading("edits: each field to a drawn value, the value it has, one too large, 0 and the greatest");
+    maker.remark("in the long types 6 and 7 to the drawn value and at most one of the others; one too large for 32 bits is 0");
     edit_each_field(maker);
     maker.heading("edits: fields that are none");
     for (satellite, sender, row) in all_rows() {
         let frame = maker.right_frame(sender, row);
         let field = maker.between(0, row.fields() - 1) as u32;
-        for none in fields_that_are_none(row.fields() as u32, field) {
-            let value = maker.between(0, 1) as u32;
-            maker.edit(satellite, none, value, &frame);
+        for (k, none) in fields_that_are_none(row.fields() as u32, field).into_iter().enumerate() {
+            if maker.has_turn(satellite, row, k) {
+                let value = maker.between(0, 1) as u32;
+                maker.edit(satellite, none, value, &frame);
+            }
         }
     }
 }
@@ -161,11 +176,14 @@ pub fn edits(maker: &mut Maker) {
 pub fn counts(maker: &mut Maker) {
     maker.heading("counts: 0, one fewer, one more and 128 values");
     for (satellite, sender, row) in all_rows() {
-        let length = frame_length(sender, row);
-        for count in [0, 1, row.fields() - 1, row.fields() + 1, 2 * row.fields(), 128] {
-            let mut values = maker.digits(row);
-            values.resize(count.min(128), 0);
-            maker.write(satellite, row.number, length, &values);
+        let length = sender.frame_length(row);
+        let counts = [0, 1, row.fields() - 1, row.fields() + 1, 2 * row.fields(), 128];
+        for (k, count) in counts.into_iter().enumerate() {
+            if maker.has_turn(satellite, row, k) {
+                let mut values = maker.digits(row);
+                values.resize(count.min(128), 0);
+                maker.write(satellite, row.number, length, &values);
+            }
         }
     }
 }

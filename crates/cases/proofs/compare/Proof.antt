@@ -8,22 +8,22 @@ use Rattle.cases.proofs.compare.Statement.{statement}
 use Rattle.cases.proofs.compare.Tie as tie
 
 abbrev Inv-loop : tie.InvT-loop
-Inv-loop part₀ held₀ tally₀ parts₀ t6 part held tally parts = (parts ≤ 65536) × ((length part ≡ length part₀) × (length held ≡ length held₀))
+Inv-loop part₀ line₀ tally₀ place₀ number₀ part line tally place number = (number ≤ 0xFFFFFFFFFFFF) × ((length part ≡ length part₀) × (length line ≡ length line₀))
 
 abbrev μ-loop : tie.MeasureT-loop
-μ-loop part₀ held₀ tally₀ parts₀ t6 part held tally parts = 65536 - parts
-
-start-requires : tie.Need-start-requires Inv-loop μ-loop
-start-requires c κs = search needs
+μ-loop part₀ line₀ tally₀ place₀ number₀ part line tally place number = 0xFFFFFFFFFFFF - number
 
 loop-holds : tie.Need-loop-holds Inv-loop μ-loop
 loop-holds c = search needs
 
-read-full-requires : tie.Need-read-full-requires Inv-loop μ-loop
-read-full-requires c κs = search needs
+next-requires : tie.Need-next-requires Inv-loop μ-loop
+next-requires c κs = search needs
 
-finish-requires : tie.Need-finish-requires Inv-loop μ-loop
-finish-requires c κs = search needs
+is-end-requires : tie.Need-is-end-requires Inv-loop μ-loop
+is-end-requires c κs = search needs
+
+print-tally-requires : tie.Need-print-tally-requires Inv-loop μ-loop
+print-tally-requires c κs = search needs
 
 same-length : tie.Need-same-length Inv-loop μ-loop
 same-length c = search needs
@@ -34,35 +34,26 @@ same-length-2 c = search needs
 returns : tie.Need-returns Inv-loop μ-loop
 returns c = search needs
 
-sub-take : tie.Need-sub-take Inv-loop μ-loop
-sub-take c = search needs
+sub-weighed : tie.Need-sub-weighed Inv-loop μ-loop
+sub-weighed c = search needs
 
-part-take-start : tie.Need-part-take-start Inv-loop μ-loop
-part-take-start c = search needs
+part-weighed-start : tie.Need-part-weighed-start Inv-loop μ-loop
+part-weighed-start c = search needs
 
-part-take-end : tie.Need-part-take-end Inv-loop μ-loop
-part-take-end c = search needs
+part-weighed-end : tie.Need-part-weighed-end Inv-loop μ-loop
+part-weighed-end c = search needs
 
-take-requires : tie.Need-take-requires Inv-loop μ-loop
-take-requires c κs = search needs
+weighed-requires : tie.Need-weighed-requires Inv-loop μ-loop
+weighed-requires c κs = search needs
 
-add-parts : tie.Need-add-parts Inv-loop μ-loop
-add-parts c = search needs
+add-number : tie.Need-add-number Inv-loop μ-loop
+add-number c = search needs
 
 loop-less : tie.Need-loop-less Inv-loop μ-loop
 loop-less c = search needs
 
 loop-again : tie.Need-loop-again Inv-loop μ-loop
 loop-again c = search needs
-
-slice-aggregate-write-all : tie.Need-slice-aggregate-write-all Inv-loop μ-loop
-slice-aggregate-write-all c = search needs
-
-write-all-requires : tie.Need-write-all-requires Inv-loop μ-loop
-write-all-requires c κs = search needs
-
-finish-requires-2 : tie.Need-finish-requires-2 Inv-loop μ-loop
-finish-requires-2 c κs = search needs
 
 same-length-3 : tie.Need-same-length-3 Inv-loop μ-loop
 same-length-3 c = search needs
@@ -79,23 +70,20 @@ compare-spec =
     (tie.spec
     Inv-loop
     μ-loop
-    start-requires
     loop-holds
-    read-full-requires
-    finish-requires
+    next-requires
+    is-end-requires
+    print-tally-requires
     same-length
     same-length-2
     returns
-    sub-take
-    part-take-start
-    part-take-end
-    take-requires
-    add-parts
+    sub-weighed
+    part-weighed-start
+    part-weighed-end
+    weighed-requires
+    add-number
     loop-less
     loop-again
-    slice-aggregate-write-all
-    write-all-requires
-    finish-requires-2
     same-length-3
     same-length-4
     returns-2)

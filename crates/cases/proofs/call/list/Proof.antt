@@ -19,6 +19,9 @@ slice-aggregate-same c = search needs
 same-requires : tie.Need-same-requires Inv-loop μ-loop
 same-requires c κs = search needs
 
+right-requires : tie.Need-right-requires Inv-loop μ-loop
+right-requires c κs = search needs
+
 returns : tie.Need-returns Inv-loop μ-loop
 returns c = search needs
 
@@ -43,6 +46,9 @@ decimal-requires c κs = search needs
 keep-requires : tie.Need-keep-requires Inv-loop μ-loop
 keep-requires c κs = search needs
 
+wrong-requires : tie.Need-wrong-requires Inv-loop μ-loop
+wrong-requires c κs = search needs
+
 same-length : tie.Need-same-length Inv-loop μ-loop
 same-length c = search needs
 
@@ -51,6 +57,9 @@ returns-2 c = search needs
 
 add-count : tie.Need-add-count Inv-loop μ-loop
 add-count c = search needs
+
+right-requires-2 : tie.Need-right-requires-2 Inv-loop μ-loop
+right-requires-2 c κs = search needs
 
 same-length-2 : tie.Need-same-length-2 Inv-loop μ-loop
 same-length-2 c = search needs
@@ -67,6 +76,9 @@ loop-less c = search needs
 loop-again : tie.Need-loop-again Inv-loop μ-loop
 loop-again c = search needs
 
+wrong-requires-2 : tie.Need-wrong-requires-2 Inv-loop μ-loop
+wrong-requires-2 c κs = search needs
+
 same-length-3 : tie.Need-same-length-3 Inv-loop μ-loop
 same-length-3 c = search needs
 
@@ -81,6 +93,7 @@ list-spec =
     μ-loop
     slice-aggregate-same
     same-requires
+    right-requires
     returns
     loop-holds
     until-requires
@@ -89,13 +102,16 @@ list-spec =
     part-decimal-end
     decimal-requires
     keep-requires
+    wrong-requires
     same-length
     returns-2
     add-count
+    right-requires-2
     same-length-2
     returns-3
     add-from
     loop-less
     loop-again
+    wrong-requires-2
     same-length-3
     returns-4)

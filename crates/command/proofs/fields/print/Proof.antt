@@ -6,16 +6,22 @@ use Rattle.command.proofs.fields.print.Statement.{statement}
 use Rattle.command.proofs.fields.print.Tie as tie
 
 abbrev Inv-loop : tie.InvT-loop
-Inv-loop form satellite ty values field₀ field-end field = field ≤ field-end
+Inv-loop form satellite ty values row field₀ field-end field = field ≤ field-end
 
 abbrev μ-loop : tie.MeasureT-loop
-μ-loop form satellite ty values field₀ field-end field = field-end - field
+μ-loop form satellite ty values row field₀ field-end field = field-end - field
+
+row-requires : tie.Need-row-requires Inv-loop μ-loop
+row-requires c κs = search needs
 
 of-requires : tie.Need-of-requires Inv-loop μ-loop
 of-requires c κs = search needs
 
 loop-holds : tie.Need-loop-holds Inv-loop μ-loop
 loop-holds c = search needs
+
+slice-aggregate-print-one : tie.Need-slice-aggregate-print-one Inv-loop μ-loop
+slice-aggregate-print-one c = search needs
 
 value-at-requires : tie.Need-value-at-requires Inv-loop μ-loop
 value-at-requires c κs = search needs
@@ -41,8 +47,10 @@ print-spec =
     (tie.spec
     Inv-loop
     μ-loop
+    row-requires
     of-requires
     loop-holds
+    slice-aggregate-print-one
     value-at-requires
     print-one-requires
     add-field

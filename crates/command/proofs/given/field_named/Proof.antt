@@ -6,19 +6,25 @@ use Rattle.command.proofs.given.field_named.Statement.{statement}
 use Rattle.command.proofs.given.field_named.Tie as tie
 
 abbrev Inv-loop : tie.InvT-loop
-Inv-loop word satellite ty field₀ field-end field = field ≤ field-end
+Inv-loop word ty row field₀ field = field ≤ 95
 
 abbrev μ-loop : tie.MeasureT-loop
-μ-loop word satellite ty field₀ field-end field = field-end - field
+μ-loop word ty row field₀ field = 95 - field
 
-of-requires : tie.Need-of-requires Inv-loop μ-loop
-of-requires c κs = search needs
+row-requires : tie.Need-row-requires Inv-loop μ-loop
+row-requires c κs = search needs
 
 loop-holds : tie.Need-loop-holds Inv-loop μ-loop
 loop-holds c = search needs
 
-of-requires-2 : tie.Need-of-requires-2 Inv-loop μ-loop
-of-requires-2 c κs = search needs
+slice-aggregate-in-row : tie.Need-slice-aggregate-in-row Inv-loop μ-loop
+slice-aggregate-in-row c = search needs
+
+cast-in-row : tie.Need-cast-in-row Inv-loop μ-loop
+cast-in-row c = search needs
+
+in-row-requires : tie.Need-in-row-requires Inv-loop μ-loop
+in-row-requires c κs = search needs
 
 is-name-requires : tie.Need-is-name-requires Inv-loop μ-loop
 is-name-requires c κs = search needs
@@ -44,9 +50,11 @@ field-named-spec =
     (tie.spec
     Inv-loop
     μ-loop
-    of-requires
+    row-requires
     loop-holds
-    of-requires-2
+    slice-aggregate-in-row
+    cast-in-row
+    in-row-requires
     is-name-requires
     returns
     add-field

@@ -29,9 +29,6 @@ of-satellite-requires c κs = search needs
 is-name-requires : tie.Need-is-name-requires Inv-loop μ-loop
 is-name-requires c κs = search needs
 
-cast-result : tie.Need-cast-result Inv-loop μ-loop
-cast-result c = search needs
-
 returns : tie.Need-returns Inv-loop μ-loop
 returns c = search needs
 
@@ -62,7 +59,6 @@ satellite-named-spec =
     enum-known-satellite
     of-satellite-requires
     is-name-requires
-    cast-result
     returns
     enum-told
     add-number
