@@ -132,7 +132,7 @@ fn types_and_addresses(maker: &mut Maker) {
 fn other_satellites(maker: &mut Maker) {
     for (number, sender, row) in all_rows() {
         let frame = maker.right_frame(sender, row);
-        for satellite in 0..7 {
+        for satellite in 0..TABLE.len() as u32 {
             if !is_long(row) || maker.has_turn(number, row, 0) {
                 maker.read(satellite, row.fields(), &frame);
             }

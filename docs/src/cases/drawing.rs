@@ -129,7 +129,7 @@ impl Maker {
     }
 
     pub fn any_row(&mut self) -> (u32, &'static Satellite, &'static Row) {
-        let satellite = self.between(0, 6);
+        let satellite = self.between(0, TABLE.len() - 1);
         let sender = &TABLE[satellite];
         (satellite as u32, sender, &sender.rows[self.between(0, sender.rows.len() - 1)])
     }

@@ -37,7 +37,7 @@ fn stray(maker: &mut Maker, call: &mut FrameCall) {
     match maker.between(0, 11) {
         0 if length > 0 => call.frame[maker.between(0, length - 1)] ^= 1 << maker.between(0, 7),
         1 if length > 1 => call.frame.swap(maker.between(0, length - 1), maker.between(0, length - 1)),
-        2 => call.satellite = maker.between(0, 6) as u32,
+        2 => call.satellite = maker.between(0, TABLE.len() - 1) as u32,
         3 => call.satellite = maker.draw() as u32,
         4 => call.room = maker.between(0, 200),
         5 => call.field = maker.between(0, 130) as u32,
@@ -72,7 +72,7 @@ fn any_write(maker: &mut Maker) {
         call.values = maker.values(row);
     }
     match maker.between(0, 15) {
-        0 => call.satellite = maker.between(0, 6) as u32,
+        0 => call.satellite = maker.between(0, TABLE.len() - 1) as u32,
         1 => call.satellite = maker.draw() as u32,
         2 => call.number = maker.between(0, 16) as u32,
         3 => call.output = maker.between(0, 255),

@@ -12,7 +12,7 @@ const FAR: [u32; 14] = [
 
 fn far_satellites(maker: &mut Maker) {
     for (turn, &far) in FAR.iter().enumerate() {
-        for satellite in 0..7u32 {
+        for satellite in 0..TABLE.len() as u32 {
             let sender = &TABLE[satellite as usize];
             let row = &sender.rows[turn % sender.rows.len()];
             let values = maker.digits(row);

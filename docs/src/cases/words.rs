@@ -9,16 +9,17 @@ const MOST_BYTES: usize = 65_537;
 /// So many equal bytes are shorter as a run.
 const LEAST_RUN: usize = 4;
 
+/// Digits alone: Rust would take a sign too.
 pub fn number(word: &str) -> Option<u32> {
-    word.parse().ok()
+    word.parse().ok().filter(|_| word.bytes().all(|sign| sign.is_ascii_digit()))
 }
 
 pub fn places(word: &str) -> Option<usize> {
-    word.parse().ok().filter(|&places| places <= MOST_PLACES)
+    number(word).map(|places| places as usize).filter(|&places| places <= MOST_PLACES)
 }
 
 pub fn output(word: &str) -> Option<usize> {
-    word.parse().ok().filter(|&bytes| bytes <= MOST_BYTES)
+    number(word).map(|bytes| bytes as usize).filter(|&bytes| bytes <= MOST_BYTES)
 }
 
 pub fn list(word: &str) -> Option<Vec<u32>> {
