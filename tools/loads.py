@@ -103,6 +103,7 @@ def see_tables(offered, told):
 def main():
     with open(sys.argv[1]) as lines:
         offered = [tuple(line.split()) for line in lines]
+    stop_unless(offered, sys.argv[1], "no frame is offered")
     see_tables(offered, see_frames(offered))
 
 

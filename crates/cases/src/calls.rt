@@ -25,7 +25,7 @@ pub(crate) fn answer(call: &[u8], page: &mut [u8]) -> usize {
 }
 
 pub(crate) fn not_understood(page: &mut [u8]) -> usize {
-    page::put(page, 0, b"?")
+    pages::text(page, 0, b"?")
 }
 
 // A call is its name, up to three numbers, and bytes or a list.
@@ -200,6 +200,6 @@ fn put_writing(page: &mut [u8], writing: Writing) -> usize {
 fn edit(page: &mut [u8], given: [u32; 3], frame: &mut [u8], before: &[u8]) -> usize {
     let writing = editing::edit(given[0], frame, given[1] as usize, given[2]);
     let answer = put_writing(page, writing);
-    let end = page::put(page, answer, b" ");
+    let end = pages::text(page, answer, b" ");
     page::put_changed(page, end, frame, before)
 }

@@ -29,7 +29,7 @@ fn put_reading(page: &mut [u8], reading: Reading) -> usize {
 
 fn put_told(page: &mut [u8], number: u32, kind: &[u8], degrees: f32) -> usize {
     let refusal = page::put_number(page, 0, number as u64);
-    let told = page::put(page, refusal, kind);
+    let told = pages::text(page, refusal, kind);
     page::put_float(page, told, degrees)
 }
 
@@ -63,7 +63,7 @@ fn day_from(page: &mut [u8], number: u32, first: usize, frame: &[u8], room: &mut
         return put_refused(page, reading.refusal);
     }
     if reading.ty != TEMPERATURES {
-        return page::put(page, 0, b"no temperatures");
+        return pages::text(page, 0, b"no temperatures");
     }
     put_codes(page, first, room)
 }
@@ -84,5 +84,5 @@ fn put_codes(page: &mut [u8], first: usize, room: &[u32]) -> usize {
 
 fn put_refused(page: &mut [u8], number: u32) -> usize {
     let refusal = page::put_number(page, 0, number as u64);
-    page::put(page, refusal, b" 0 00000000 00000000 0")
+    pages::text(page, refusal, b" 0 00000000 00000000 0")
 }

@@ -41,9 +41,9 @@ pub(crate) fn unscramble(
 
 fn put_passed(page: &mut [u8], sent: u32, bytes: &[u8], before: &[u8]) -> usize {
     let answer = page::put_low_bytes(page, 0, sent, 0);
-    let end = page::put(page, answer, b" ");
+    let end = pages::text(page, answer, b" ");
     if check::same(bytes, before) {
-        return page::put(page, end, b"=");
+        return pages::text(page, end, b"=");
     }
     page::put_behind(page, end, bytes, START_BYTES)
 }
@@ -66,7 +66,7 @@ pub(crate) fn satellite(page: &mut [u8], numbers: &[u32]) -> usize {
     }
     match Satellite::from_number(numbers[0]) {
         Known::Is(satellite) => put_satellite(page, satellite),
-        Known::Unknown => page::put(page, 0, b"none"),
+        Known::Unknown => pages::text(page, 0, b"none"),
     }
 }
 

@@ -1,27 +1,15 @@
-// An answer's text, put together on a page: each function puts something at `at` and answers where it ends. What does not fit is left
-// out.
+// The parts of an answer, on a page: each function puts one at `at` and answers where it ends. Of what does not fit, the front is put.
 use crate::marks;
-
-pub(crate) fn put(page: &mut [u8], at: usize, text: &[u8]) -> usize {
-    if page.len() < at {
-        return at;
-    }
-    if page.len() - at < text.len() {
-        return at;
-    }
-    bytes::copy(text, &mut page[at..]);
-    at + text.len()
-}
 
 pub(crate) fn put_number(page: &mut [u8], at: usize, n: u64) -> usize {
     let mut text = [0u8; 20];
     let k = io::decimal(n, &mut text);
-    put(page, at, &text[..k])
+    pages::text(page, at, &text[..k])
 }
 
 // The same with a blank ahead.
 pub(crate) fn put_next(page: &mut [u8], at: usize, n: u64) -> usize {
-    let behind = put(page, at, b" ");
+    let behind = pages::text(page, at, b" ");
     put_number(page, behind, n)
 }
 
@@ -38,14 +26,14 @@ pub(crate) fn put_bytes(page: &mut [u8], at: usize, bytes: &[u8]) -> usize {
 // What a call left of bytes that it may change: `=` where they stayed.
 pub(crate) fn put_changed(page: &mut [u8], at: usize, bytes: &[u8], before: &[u8]) -> usize {
     if check::same(bytes, before) {
-        return put(page, at, b"=");
+        return pages::text(page, at, b"=");
     }
     put_bytes(page, at, bytes)
 }
 
 fn put_byte(page: &mut [u8], at: usize, b: u8) -> usize {
     let text = [digit(b / 16), digit(b % 16)];
-    put(page, at, &text)
+    pages::text(page, at, &text)
 }
 
 fn digit(d: u8) -> u8 {
@@ -58,7 +46,7 @@ fn digit(d: u8) -> u8 {
 
 // The bits of a float, with a blank ahead.
 pub(crate) fn put_float(page: &mut [u8], at: usize, x: f32) -> usize {
-    let behind = put(page, at, b" ");
+    let behind = pages::text(page, at, b" ");
     put_low_bytes(page, behind, pattern(x), 0)
 }
 
@@ -85,7 +73,7 @@ fn byte_of(n: u32) -> u8 {
     (n % 256) as u8
 }
 
-// What is not a number is told as one such: no right answer is that.
+// For all that is not a number one pattern is put, which no right answer has.
 fn pattern(x: f32) -> u32 {
     if x == x { f32::to_bits(x) } else { 0x7FC0_0000 }
 }
@@ -93,7 +81,7 @@ fn pattern(x: f32) -> u32 {
 // What a room holds, with a blank ahead: the places up to the last one that does not hold its mark, and how many follow it.
 pub(crate) fn put_room(page: &mut [u8], at: usize, room: &[u32]) -> usize {
     let n = marks::places_used(room);
-    let behind = put(page, at, b" ");
+    let behind = pages::text(page, at, b" ");
     let end = put_list(page, behind, &room[0..n]);
     put_kept(page, end, room.len() - n)
 }
@@ -113,19 +101,19 @@ fn put_item(page: &mut [u8], at: usize, i: usize, value: u32) -> usize {
     if i == 0 {
         return put_number(page, at, value as u64);
     }
-    let behind = put(page, at, b",");
+    let behind = pages::text(page, at, b",");
     put_number(page, behind, value as u64)
 }
 
 // What an output holds, likewise.
 pub(crate) fn put_output(page: &mut [u8], at: usize, output: &[u8]) -> usize {
     let n = marks::bytes_used(output);
-    let behind = put(page, at, b" ");
+    let behind = pages::text(page, at, b" ");
     let end = put_bytes(page, behind, &output[0..n]);
     put_kept(page, end, output.len() - n)
 }
 
 fn put_kept(page: &mut [u8], at: usize, kept: usize) -> usize {
-    let behind = put(page, at, b"+");
+    let behind = pages::text(page, at, b"+");
     put_number(page, behind, kept as u64)
 }

@@ -163,6 +163,11 @@ fn type_byte(satellite: Satellite, frame: &[u8]) {
 // What the refusal comes of, in words.
 fn why(refusal: u32, satellite: Satellite, frame: &[u8]) {
     printing::text(b"why: ");
+    cause(refusal, satellite, frame);
+    printing::text(b"\n");
+}
+
+fn cause(refusal: u32, satellite: Satellite, frame: &[u8]) {
     match refusal {
         2 => printing::text(
             b"the frame ends ahead of its type byte, which would tell type and sender",
@@ -183,7 +188,6 @@ fn why(refusal: u32, satellite: Satellite, frame: &[u8]) {
         ),
         _ => printing::text(b"there is no room"),
     }
-    printing::text(b"\n");
 }
 
 fn owners(satellite: Satellite, frame: &[u8]) {

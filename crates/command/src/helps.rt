@@ -14,40 +14,23 @@ pub(crate) fn help(line: &[u8]) {
 
 fn all() {
     printing::text(
-        b"A command is words: arguments, or a line of standard input, whose answer ends with an empty line.\n",
+        b"A command is words: arguments, or a line of standard input, whose answer ends with an empty line.
+  layouts                             the types of each satellite, their fields and bytes
+  fields SATELLITE TYPE               number, name, first bit and width of each field
+  read SATELLITE FRAME                the values of a frame by name, temperatures in degrees
+  csv SATELLITE TYPE                  the frames on the lines that follow, as a table
+  json SATELLITE                      the same, an object for each frame
+  write SATELLITE TYPE VALUES..       the frame of these values
+  edit SATELLITE FRAME FIELD VALUE    the frame with one field changed, and which sent bits flip
+  explain SATELLITE FRAME             the frame taken apart, test by test
+  temperature CODE..                  what a code stands for
+  summary CODE..                      coldest and warmest of a day's ten codes
+  help COMMAND                        more about a command, with an example
+SATELLITE is a name, in upper or lower case, or a number: 0 HADES-D, 1 HADES-ICM, 2 MARIA-G, 3 UNNE-1, 4 HADES-R,
+5 UNNE-1B, 6 HADES-SA. FRAME is in hexadecimal, with or without blanks. FIELD is a name or a number.
+A line that begins with # is a remark, and has no answer.
+",
     );
-    printing::text(
-        b"  layouts                             the types of each satellite, their fields and bytes\n",
-    );
-    printing::text(
-        b"  fields SATELLITE TYPE               number, name, first bit and width of each field\n",
-    );
-    printing::text(
-        b"  read SATELLITE FRAME                the values of a frame by name, temperatures in degrees\n",
-    );
-    printing::text(
-        b"  csv SATELLITE TYPE                  the frames on the lines that follow, as a table\n",
-    );
-    printing::text(b"  json SATELLITE                      the same, an object for each frame\n");
-    printing::text(b"  write SATELLITE TYPE VALUES..       the frame of these values\n");
-    printing::text(
-        b"  edit SATELLITE FRAME FIELD VALUE    the frame with one field changed, and which sent bits flip\n",
-    );
-    printing::text(b"  explain SATELLITE FRAME             the frame taken apart, test by test\n");
-    printing::text(b"  temperature CODE..                  what a code stands for\n");
-    printing::text(
-        b"  summary CODE..                      coldest and warmest of a day's ten codes\n",
-    );
-    printing::text(
-        b"  help COMMAND                        more about a command, with an example\n",
-    );
-    printing::text(
-        b"SATELLITE is a name, in upper or lower case, or a number: 0 HADES-D, 1 HADES-ICM, 2 MARIA-G, 3 UNNE-1, 4 HADES-R,\n",
-    );
-    printing::text(
-        b"5 UNNE-1B, 6 HADES-SA. FRAME is in hexadecimal, with or without blanks. FIELD is a name or a number.\n",
-    );
-    printing::text(b"A line that begins with # is a remark, and has no answer.\n");
 }
 
 fn of(line: &[u8], word: &[u8]) {
@@ -92,96 +75,94 @@ fn of_others(line: &[u8], word: &[u8]) {
 }
 
 fn layouts() {
-    printing::text(b"layouts\n");
     printing::text(
-        b"A line for each satellite and type: satellite number, type, number of fields, bytes of the frame.\n",
+        b"layouts
+A line for each satellite and type: satellite number, type, number of fields, bytes of the frame.
+  ./tolimbar layouts
+",
     );
-    printing::text(b"  ./tolimbar layouts\n");
 }
 
 fn fields() {
-    printing::text(b"fields SATELLITE TYPE\n");
     printing::text(
-        b"A line for each field: its number, its name, the bit of the body where it starts, its width in bits.\n",
+        b"fields SATELLITE TYPE
+A line for each field: its number, its name, the bit of the body where it starts, its width in bits.
+  ./tolimbar fields HADES-D 8
+",
     );
-    printing::text(b"  ./tolimbar fields HADES-D 8\n");
 }
 
 fn read() {
-    printing::text(b"read SATELLITE FRAME\n");
     printing::text(
-        b"Satellite, type and its name, then a line for each field: its name, its value, and of a temperature what it stands for.\n",
+        b"read SATELLITE FRAME
+Satellite, type and its name, then a line for each field: its name, its value, and of a temperature what it stands for.
+  ./tolimbar read HADES-D AAAAAAAAAAAAAAAABF3528D05C3FBEB06108775B172EC2
+",
     );
-    printing::text(b"  ./tolimbar read HADES-D AAAAAAAAAAAAAAAABF3528D05C3FBEB06108775B172EC2\n");
 }
 
 fn csv() {
-    printing::text(b"csv SATELLITE TYPE\n");
     printing::text(
-        b"Each line of standard input, up to an empty one, is a frame and becomes a row, below a heading: the fields' values, behind\n",
-    );
-    printing::text(
-        b"a temperature's code its degrees (empty for a sensor error), and last, in the column refused, why there are none.\n",
-    );
-    printing::text(
-        b"Where the words are refused, no frames are taken: the next line is a command.\n",
-    );
-    printing::text(
-        b"  echo AAAAAAAAAAAAAAAABF3528D05C3FBEB06108775B172EC2 | ./tolimbar csv HADES-D 2\n",
+        b"csv SATELLITE TYPE
+Each line of standard input, up to an empty one, is a frame and becomes a row, below a heading: the fields' values, behind
+a temperature's code its degrees (empty for a sensor error), and last, in the column refused, why there are none.
+Where the words are refused, no frames are taken: the next line is a command.
+  echo AAAAAAAAAAAAAAAABF3528D05C3FBEB06108775B172EC2 | ./tolimbar csv HADES-D 2
+",
     );
 }
 
 fn json() {
-    printing::text(b"json SATELLITE\n");
     printing::text(
-        b"Each line of standard input, up to an empty one, is a frame and becomes an object on a line: satellite, type, name, fields,\n",
-    );
-    printing::text(
-        b"degrees (null for a sensor error), and last refused: null, or why there are none of these.\n",
-    );
-    printing::text(
-        b"  echo AAAAAAAAAAAAAAAABF3528D05C3FBEB06108775B172EC2 | ./tolimbar json HADES-D\n",
+        b"json SATELLITE
+Each line of standard input, up to an empty one, is a frame and becomes an object on a line: satellite, type, name, fields,
+degrees (null for a sensor error), and last refused: null, or why there are none of these.
+  echo AAAAAAAAAAAAAAAABF3528D05C3FBEB06108775B172EC2 | ./tolimbar json HADES-D
+",
     );
 }
 
 fn write() {
-    printing::text(b"write SATELLITE TYPE VALUES..\n");
     printing::text(
-        b"The frame, in hexadecimal. There is one value for each field, in the fields' order.\n",
+        b"write SATELLITE TYPE VALUES..
+The frame, in hexadecimal. There is one value for each field, in the fields' order.
+  ./tolimbar write HADES-D 2 80 81 82 83 84 85 86 87 88 89
+",
     );
-    printing::text(b"  ./tolimbar write HADES-D 2 80 81 82 83 84 85 86 87 88 89\n");
 }
 
 fn edit() {
-    printing::text(b"edit SATELLITE FRAME FIELD VALUE\n");
     printing::text(
-        b"The edited frame, in hexadecimal, then the sent bits of both frames, byte by byte: ^ marks one that flips.\n",
-    );
-    printing::text(
-        b"  ./tolimbar edit HADES-D AAAAAAAAAAAAAAAABF3528D05C3FBEB06108775B172EC2 tpb 90\n",
+        b"edit SATELLITE FRAME FIELD VALUE
+The edited frame, in hexadecimal, then the sent bits of both frames, byte by byte: ^ marks one that flips.
+  ./tolimbar edit HADES-D AAAAAAAAAAAAAAAABF3528D05C3FBEB06108775B172EC2 tpb 90
+",
     );
 }
 
 fn explain() {
-    printing::text(b"explain SATELLITE FRAME\n");
     printing::text(
-        b"The frame's parts, then each test with what it found and expected, up to the first that fails, and why.\n",
-    );
-    printing::text(
-        b"  ./tolimbar explain HADES-R AAAAAAAAAAAAAAAAAAAAAAAAAAAAAAAABF352C801859F384F5BF1761A8F00224436750\n",
+        b"explain SATELLITE FRAME
+The frame's parts, then each test with what it found and expected, up to the first that fails, and why.
+  ./tolimbar explain HADES-R AAAAAAAAAAAAAAAAAAAAAAAAAAAAAAAABF352C801859F384F5BF1761A8F00224436750
+",
     );
 }
 
 fn temperature() {
-    printing::text(b"temperature CODE..\n");
-    printing::text(b"A line for each code: so many degrees, or a sensor error.\n");
-    printing::text(b"  ./tolimbar temperature 0 80 254 255\n");
+    printing::text(
+        b"temperature CODE..
+A line for each code: so many degrees, or a sensor error.
+  ./tolimbar temperature 0 80 254 255
+",
+    );
 }
 
 fn summary() {
-    printing::text(b"summary CODE..\n");
     printing::text(
-        b"Of a day's ten codes, panels A to E, EPS, TX, TX2, RX, CPU: coldest, warmest, and how many sensors answered.\n",
+        b"summary CODE..
+Of a day's ten codes, panels A to E, EPS, TX, TX2, RX, CPU: coldest, warmest, and how many sensors answered.
+  ./tolimbar summary 90 100 60 255 80 80 80 80 80 80
+",
     );
-    printing::text(b"  ./tolimbar summary 90 100 60 255 80 80 80 80 80 80\n");
 }

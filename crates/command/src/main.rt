@@ -76,14 +76,9 @@ fn with_argument(line: &mut [u8], at: usize, i: usize) -> Line {
 
 // Of a text that does not fit, the front that does.
 fn put(line: &mut [u8], at: usize, text: &[u8]) -> Line {
-    if line.len() < at {
+    let end = pages::text(line, at, text);
+    if end - at < text.len() {
         return Line::TooLong;
     }
-    let room = line.len() - at;
-    if room < text.len() {
-        bytes::copy(&text[0..room], &mut line[at..]);
-        return Line::TooLong;
-    }
-    bytes::copy(text, &mut line[at..]);
-    Line::Is(at + text.len())
+    Line::Is(end)
 }

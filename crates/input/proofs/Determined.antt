@@ -1,5 +1,5 @@
--- Nothing is asked of a caller: `Pre`, what the contract requires, holds of all arguments. Where a line's end is among the unread bytes, any
--- two results that the contract allows are equal. Where none is, more is read, and what comes on standard input no contract can say: there
+-- Nothing is asked of a caller: `Pre`, what the contract requires, holds of all arguments. Where nothing has to be read (`ready`), any
+-- two results that the contract allows are equal. Elsewhere more is read, and what comes on standard input no contract can say: there
 -- it allows more than one result.
 -- Assumes nothing.
 use mathlib.Core.Path.{_≡_, _∙_, sym}

@@ -3,8 +3,8 @@ ghost use mathlib.Core.Path.{_≡_};
 ghost use mathlib.Core.Bool.{true};
 ghost use Prim.Native.Nat.{_≤_, min};
 ghost use lib.ListN.{length};
-ghost use Rattle.io.specs.Counts.{Counts};
-ghost use Rattle.input.specs.Lines.{ready, lineOf, behind, filled, answer};
+ghost use Rattle.pages.specs.Pages.{put as put·on};
+ghost use Rattle.input.specs.Lines.{ready, lineOf, answer, lastOf, found};
 use libc::STDIN_FILENO;
 
 // Nothing says that input ends: so many reads are made for a line at the most.
@@ -32,20 +32,21 @@ pub struct Line {
 }
 
 // The next line, without its end, goes to the start of `line`; of one that is too long, the front that fits. The last line may have no
-// end. `part` keeps what was read behind the line for the next call. Nothing is read where the line's end is there already.
+// end. `part` keeps what was read behind the line for the next call. Nothing is read where the line's end is there already, or no more
+// come.
 pub fn next(part: &mut [u8], line: &mut [u8], place: Place) -> Line
     ensures { λ r. ⌜ r .letters ≤ length (now (line .exit)) ⌝ }
     ensures { λ _. ⌜ length (now (line .exit)) ≡ length (now (line .entry)) ⌝ }
     ensures { λ _. ⌜ length (now (part .exit)) ≡ length (now (part .entry)) ⌝ }
     ensures { λ r. ⌜ (ready (now (part .entry)) place ≡ true
-        → (r ≡ answer (length (now (line .entry))) (length (lineOf (now (part .entry)) place)) (behind (now (part .entry)) place))
-        × ((now (line .exit) ≡ filled (now (line .entry)) (lineOf (now (part .entry)) place))
+        → (r ≡ found (length (now (line .entry))) (now (part .entry)) place)
+        × ((now (line .exit) ≡ put·on (now (line .entry)) 0 (lineOf (now (part .entry)) place))
         × (now (part .exit) ≡ now (part .entry)))) ⌝ }
 {
     let end = lesser(place.end, part.len());
     let at = lesser(place.at, end);
     let stop = bytes::scan::find(part, at, end, b'\n');
-    fill(line, &part[at..stop]);
+    pages::text(line, 0, &part[at..stop]);
     if stop < end {
         return whole(
             line,
@@ -57,7 +58,10 @@ pub fn next(part: &mut [u8], line: &mut [u8], place: Place) -> Line
             },
         );
     }
-    more(part, line, stop - at, place.ended)
+    if place.ended {
+        return last(line, stop - at);
+    }
+    more(part, line, stop - at)
 }
 
 fn lesser(a: usize, b: usize) -> usize
@@ -70,22 +74,20 @@ fn lesser(a: usize, b: usize) -> usize
 }
 
 // Reads on, up to a line's end, behind so many letters of the line.
-fn more(part: &mut [u8], line: &mut [u8], letters: usize, ended: bool) -> Line
+fn more(part: &mut [u8], line: &mut [u8], letters: usize) -> Line
     ensures { λ r. ⌜ r .letters ≤ length (now (line .exit)) ⌝ }
     ensures { λ _. ⌜ length (now (line .exit)) ≡ length (now (line .entry)) ⌝ }
     ensures { λ _. ⌜ length (now (part .exit)) ≡ length (now (part .entry)) ⌝ }
 {
     let mut letters = letters;
-    let mut ended = ended;
     let mut reads = 0;
     while reads < MOST_READS {
-        if ended {
+        let end = read(part);
+        if end == 0 {
             return last(line, letters);
         }
-        let end = read(part);
         let stop = bytes::scan::find(part, 0, end, b'\n');
         letters = put(line, letters, &part[0..stop]);
-        ended = end == 0;
         if stop < end {
             return whole(
                 line,
@@ -93,7 +95,7 @@ fn more(part: &mut [u8], line: &mut [u8], letters: usize, ended: bool) -> Line
                 Place {
                     at: stop + 1,
                     end,
-                    ended,
+                    ended: false,
                 },
             );
         }
@@ -110,25 +112,14 @@ fn read(part: &mut [u8]) -> usize
     io::count(got, part)
 }
 
-// Puts the letters behind those that are there, as many as there is place for. The answer is how many the line has then.
+// Puts the letters behind those that are there, as many as there is place for. The answer is how many the line has so far; of a line that is
+// too long, some number above what there is place for.
 fn put(line: &mut [u8], at: usize, text: &[u8]) -> usize {
     if line.len() < at {
         return at;
     }
-    fill(&mut line[at..], text);
+    pages::text(line, at, text);
     at + text.len()
-}
-
-// Copies the letters to the start of the room, as many as there is place for.
-fn fill(room: &mut [u8], letters: &[u8])
-    ensures { λ _. ⌜ now (room .exit) ≡ filled (now (room .entry)) (now (letters .entry)) ⌝ }
-{
-    let n = room.len();
-    if letters.len() <= n {
-        bytes::copy(letters, room);
-        return;
-    }
-    bytes::copy(&letters[0..n], room);
 }
 
 // A line of so many letters, and the place behind it.
@@ -153,6 +144,7 @@ fn whole(line: &[u8], letters: usize, place: Place) -> Line
 // No more input comes. What there is of a line is the last one.
 fn last(line: &[u8], letters: usize) -> Line
     ensures { λ r. ⌜ r .letters ≤ length (now (line .entry)) ⌝ }
+    ensures { λ r. ⌜ r ≡ lastOf (length (now (line .entry))) letters ⌝ }
 {
     if letters == 0 {
         return Line {

@@ -14,7 +14,8 @@ use Rattle.layouts.specs.Layouts.{counted, among, carriedBy, found, entryOf, ty
 use Rattle.layouts.specs.Layouts.{table as layouts}
 use Rattle.layouts.specs.Rules.{every}
 use Rattle.layouts.proofs.Entries.{passes, no-entry}
-use Rattle.names.specs.Names.{text, partsOf, index, arrayOf, gridOf}
+use Rattle.words.specs.Words.{text, parts}
+use Rattle.names.specs.Names.{index, arrayOf, gridOf}
 use Rattle.names.specs.Fields.{table, namesIn, namesOf}
 use Rattle.names.proofs.Carried.{not-carried}
 use Rattle.names.proofs.Everywhere.{agrees, agree, each-satellite}
@@ -31,7 +32,7 @@ abbrev agreesOn : Satellite → ℕ → Bool
 agreesOn s t = agrees (entryOf s t .clock) (startsNamed s t)
 
 all-named : T (every (λ s. every (agreesOn s) (typesOf s)) seven)
-unfolding every layouts counted among carriedBy found table namesIn text partsOf index arrayOf gridOf same
+unfolding every layouts counted among carriedBy found table namesIn text parts index arrayOf gridOf same
 all-named = tt
 
 -- a type, carried or not, starts with a clock exactly if its first field is called so

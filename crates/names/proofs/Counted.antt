@@ -15,7 +15,8 @@ use Rattle.layouts.specs.Layouts.{counted, among, carriedBy, found, entryOf, ty
 use Rattle.layouts.specs.Layouts.{table as layouts}
 use Rattle.layouts.specs.Rules.{every}
 use Rattle.layouts.proofs.Entries.{each, passes, no-entry}
-use Rattle.names.specs.Names.{text, partsOf, index, arrayOf, gridOf, mostLetters, written}
+use Rattle.words.specs.Words.{text, parts}
+use Rattle.names.specs.Names.{index, arrayOf, gridOf, mostLetters, written}
 use Rattle.names.specs.Fields.{table, namesIn, namesOf, nameOf}
 use Rattle.names.proofs.Carried.{not-carried}
 use Rattle.names.proofs.Everywhere.{each-satellite, each-type}
@@ -25,7 +26,7 @@ abbrev asMany : Satellite → ℕ → Bool
 asMany s t = eqb (length (namesOf s t)) (length (entryOf s t .widths))
 
 all-as-many : T (every (λ s. every (asMany s) (typesOf s)) seven)
-unfolding every layouts counted among carriedBy found table namesIn text partsOf index arrayOf gridOf
+unfolding every layouts counted among carriedBy found table namesIn text parts index arrayOf gridOf
 all-as-many = tt
 
 -- every type, carried or not, has as many names as fields
@@ -43,7 +44,7 @@ abbrev fits : List ℕ → Bool
 fits name = leb 1 (length name) && leb (length name) mostLetters
 
 all-fit : T (every (λ l. every fits (l .names)) table)
-unfolding every counted table text partsOf index arrayOf gridOf
+unfolding every counted table text parts index arrayOf gridOf
 all-fit = tt
 
 names-fit : (s : Satellite) (t : ℕ) → T (every fits (namesOf s t))

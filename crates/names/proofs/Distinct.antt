@@ -16,7 +16,9 @@ use Rattle.layouts.specs.Layouts.{counted}
 use Rattle.layouts.specs.Rules.{every}
 use Rattle.layouts.proofs.Entries.{each}
 use Rattle.names.specs.declared.Name.{Name}
-use Rattle.names.specs.Names.{text, partsOf, index, arrayOf, gridOf, filled, written}
+use Rattle.pages.specs.Pages.{put}
+use Rattle.words.specs.Words.{text, parts}
+use Rattle.names.specs.Names.{index, arrayOf, gridOf, written}
 use Rattle.names.specs.Fields.{satelliteName, table, namesOf, nameOf}
 use Rattle.names.proofs.Everywhere.{by-number, each-type}
 use Rattle.names.proofs.Rows.{satelliteNames}
@@ -61,14 +63,14 @@ distinct names = once (map numbered names)
 -- where no two of them are, equal Names are at one place
 told-apart : (names : List (List ℕ)) → T (distinct names) → (i j : ℕ) → i < length names → j < length names
     → written (getD names i []) ≡ written (getD names j []) → i ≡ j
-unfolding written filled asNumber
+unfolding written put asNumber
 told-apart names t i j h k e =
     let same = ap (λ (n : Name). asNumber (n .text)) e in
     one-place (map numbered names) t i j (rw length-map h) (rw length-map k)
     (List·getD-map numbered names i [] ∙ same ∙ sym (List·getD-map numbered names j []))
 
 all-distinct : T (every (λ l. distinct (l .names)) table)
-unfolding every counted table text partsOf index arrayOf gridOf filled written once asNumber
+unfolding every counted table text parts index arrayOf gridOf put written once asNumber
 all-distinct = tt
 
 distinct-names : (s : Satellite) (t : ℕ) → T (distinct (namesOf s t))
@@ -85,7 +87,7 @@ module _ (s : Satellite) (t i j : ℕ) (h : i < length (namesOf s t)) (k : j < l
   names-distinct e = answers-distinct (ap written e)
 
 satellites-all-distinct : T (distinct satelliteNames)
-unfolding every text filled written once asNumber
+unfolding every text put written once asNumber
 satellites-all-distinct = tt
 
 -- no two satellites have the same name

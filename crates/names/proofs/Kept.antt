@@ -15,11 +15,12 @@ use Rattle.satellites.specs.declared.Satellite.{Satellite}
 use Rattle.satellites.specs.Satellites.{numberOf, seven}
 use Rattle.layouts.specs.Layouts.{among}
 use Rattle.layouts.specs.Rules.{every}
-use Rattle.names.specs.Names.{partsOf, filled}
+use Rattle.pages.specs.Pages.{put}
+use Rattle.pages.proofs.Laws.{one-behind}
+use Rattle.names.specs.Names.{partsOf}
 use Rattle.names.specs.Lines.{ahead, isOf, lineOf, rowIn}
 use Rattle.names.specs.Fields.{Line, table, namesIn, namesOf, lined, rowLength, rowOf}
 use Rattle.names.proofs.Everywhere.{agrees, agree, each-satellite}
-use Rattle.names.proofs.Filled.{one-behind}
 
 -- a line of the text and one of the table agree on a satellite
 abbrev agreesOn : List ℕ → Line → Satellite → Bool
@@ -72,16 +73,16 @@ module _ (w : List ℕ) (l : Line) (t : T (sameLine w l)) where
       rw (true-is (leb ahead (length w)) (said .0), satellite, type, eqb-add 528 (l .frameType) ty)
 
   -- they make the same row
-  same-row : filled (replicate rowLength 32) (drop ahead w) ≡ rowOf (l .names)
+  same-row : put (replicate rowLength 32) 0 (drop ahead w) ≡ rowOf (l .names)
   unfolding rowOf
   same-row =
       let names = drop ahead w ++ 32 ∷ [] in
       let e = same-equal names (lined (l .names)) (true-is (same names (lined (l .names))) (said .1 .1 .1)) in
-      sym (one-behind rowLength 32 (drop ahead w)) ∙ ap (filled (replicate rowLength 32)) e
+      sym (one-behind rowLength 32 (drop ahead w)) ∙ ap (put (replicate rowLength 32) 0) e
 
 -- their rows of a satellite's type are the same
 same-rows : (s : Satellite) (ty : ℕ) (ws : List (List ℕ)) (ls : List Line) → T (keeps ws ls)
-    → filled (replicate rowLength 32) (lineOf (numberOf s) ty ws) ≡ rowOf (namesIn (numberOf s) ty ls)
+    → put (replicate rowLength 32) 0 (lineOf (numberOf s) ty ws) ≡ rowOf (namesIn (numberOf s) ty ls)
 unfolding keeps lineOf namesIn rowOf lined
 same-rows s ty [] [] t = refl
 same-rows s ty [] (l ∷ ls) t = absurd t
@@ -94,9 +95,9 @@ same-rows s ty (w ∷ ws) (l ∷ ls) t =
     blanks : List ℕ
     blanks = replicate rowLength 32
 
-    go : (b : Bool) → filled blanks (drop ahead w) ≡ rowOf (l .names)
-        → filled blanks (lineOf (numberOf s) ty ws) ≡ rowOf (namesIn (numberOf s) ty ls)
-        → filled blanks (cond b (drop ahead w) (lineOf (numberOf s) ty ws)) ≡ rowOf (cond b (l .names) (namesIn (numberOf s) ty ls))
+    go : (b : Bool) → put blanks 0 (drop ahead w) ≡ rowOf (l .names)
+        → put blanks 0 (lineOf (numberOf s) ty ws) ≡ rowOf (namesIn (numberOf s) ty ls)
+        → put blanks 0 (cond b (drop ahead w) (lineOf (numberOf s) ty ws)) ≡ rowOf (cond b (l .names) (namesIn (numberOf s) ty ls))
     go true this rest = this
     go false this rest = rest
 
@@ -109,4 +110,4 @@ pub kept : (w : List ℕ) {n : ℕ} {r : List ℕ} (s : Satellite) (ty : ℕ) �
     → r ≡ rowOf (namesOf s ty)
 unfolding holdsTable rowIn
 kept w {n} {r} s ty t e row =
-    row ∙ ap (λ (k : ℕ). filled (replicate rowLength 32) (lineOf k ty (partsOf 10 w))) e ∙ same-rows s ty (partsOf 10 w) table t
+    row ∙ ap (λ (k : ℕ). put (replicate rowLength 32) 0 (lineOf k ty (partsOf 10 w))) e ∙ same-rows s ty (partsOf 10 w) table t

@@ -5,7 +5,6 @@ pub mod Counted
 pub mod Determined
 pub mod Distinct
 pub mod Everywhere
-pub mod Filled
 pub mod Kept
 pub mod Parts
 pub mod Rows

@@ -1,6 +1,6 @@
 -- The parts of a text, one after the other. Assumes nothing.
 use mathlib.Core.Path.{_≡_, refl, sym, ap}
-use mathlib.Core.Bool.{Bool, true, false, false≢true, cond, _&&_}
+use mathlib.Core.Bool.{Bool, true, false, false≢true, cond, not, _&&_}
 use mathlib.Core.List.{List, [], _∷_}
 use Prim.Native.Nat.{ℕ, suc, _+_, _-_, _*_, _≤_, _<_}
 use native.Mathlib.Omega.{arith}
@@ -9,7 +9,8 @@ use lib.ListN.{length, getD, take, drop, length-drop}
 use lib.Seq.{take-length, drop-drop}
 use borrow.Author.Tests.{lt-ltb, le-leb, lt-leb, eq-eqb, ne-eqb, ltb-true, ltb-false, leb-true}
 use Rattle.bytes.specs.Bytes.{indexOf, indexAfter, slice}
-use Rattle.names.specs.Names.{led, partsOf}
+use Rattle.words.specs.Words.{led, parts}
+use Rattle.names.specs.Names.{partsOf}
 use Rattle.names.specs.Lines.{ahead, isOf, lineOf}
 
 -- the parts behind the first separator
@@ -18,12 +19,12 @@ behind sep xs i = cond (ltb i (length xs)) (partsOf sep (drop (suc i) xs)) []
 
 -- the first part ends at the first separator
 parts-first : (sep : ℕ) (xs : List ℕ) → partsOf sep xs ≡ take (indexOf sep xs) xs ∷ behind sep xs (indexOf sep xs)
-unfolding partsOf indexOf indexAfter behind
+unfolding parts indexOf indexAfter behind
 parts-first sep [] = refl
 parts-first sep (x ∷ xs) = go (eqb x sep) (parts-first sep xs)
   where
     go : (b : Bool) → partsOf sep xs ≡ take (indexOf sep xs) xs ∷ behind sep xs (indexOf sep xs)
-        → cond b ([] ∷ partsOf sep xs) (led x (partsOf sep xs))
+        → cond (not b) (led x (partsOf sep xs)) ([] ∷ partsOf sep xs)
         ≡ take (indexAfter b (indexOf sep xs)) (x ∷ xs) ∷ behind sep (x ∷ xs) (indexAfter b (indexOf sep xs))
     go true e = rw (lt-ltb 0 (suc (length xs)) (omega arith))
     go false e = rw (e, leb·suc-suc (suc (indexOf sep xs)) (length xs))
@@ -57,12 +58,6 @@ module _ (sep : ℕ) (xs : List ℕ) where
           → b ≡ leb (end + 1) (length xs)
       go true t at = sym (le-leb (end + 1) (length xs) (omega (arith, ltb-true (indexOf sep (drop from xs)) (length (drop from xs)) t, length-drop from xs)))
       go false t at = sym (lt-leb (end + 1) (length xs) (omega (arith, ltb-false (indexOf sep (drop from xs)) (length (drop from xs)) t, length-drop from xs)))
-
--- past the first, one fewer is left to pass
-pub getD-past : (p : List ℕ) (ps : List (List ℕ)) (n : ℕ) → (n ≡ 0 → ⊥) → getD (p ∷ ps) n [] ≡ getD ps (n - 1) []
-getD-past p ps n h =
-    let e : n ≡ suc (n - 1) = omega arith in
-    ap (λ (k : ℕ). getD (p ∷ ps) k []) e
 
 -- ---- lines
 

@@ -10,10 +10,11 @@ use Rattle.satellites.specs.declared.Satellite.{Satellite}
 use Rattle.satellites.specs.Satellites.{numberOf, seven}
 use Rattle.layouts.specs.Layouts.{counted}
 use Rattle.layouts.specs.Rules.{every}
-use Rattle.names.specs.Names.{text, led, partsOf, written, index, arrayOf, gridOf}
+use Rattle.pages.proofs.Laws.{all-behind}
+use Rattle.words.specs.Words.{text, led, parts}
+use Rattle.names.specs.Names.{partsOf, written, index, arrayOf, gridOf}
 use Rattle.names.specs.Fields.{satelliteName, table, namesOf, nameOf, lined, rowLength, rowOf}
 use Rattle.names.proofs.Everywhere.{by-number, each-type}
-use Rattle.names.proofs.Filled.{all-behind}
 
 -- a word has no blank in it
 abbrev isWord : List ℕ → Bool
@@ -21,20 +22,20 @@ isWord name = every (λ x. not (eqb x 32)) name
 
 -- up to its blank it is the first part
 word-first : (name rest : List ℕ) → T (isWord name) → partsOf 32 (name ++ 32 ∷ rest) ≡ name ∷ partsOf 32 rest
-unfolding partsOf every
+unfolding parts every
 word-first [] rest t = refl
 word-first (x ∷ name) rest t =
     let both = and-yes (not (eqb x 32)) (isWord name) t in
     go (eqb x 32) (both .0) (word-first name rest (both .1))
   where
     go : (b : Bool) → T (not b) → partsOf 32 (name ++ 32 ∷ rest) ≡ name ∷ partsOf 32 rest
-        → cond b ([] ∷ partsOf 32 (name ++ 32 ∷ rest)) (led x (partsOf 32 (name ++ 32 ∷ rest))) ≡ (x ∷ name) ∷ partsOf 32 rest
+        → cond (not b) (led x (partsOf 32 (name ++ 32 ∷ rest))) ([] ∷ partsOf 32 (name ++ 32 ∷ rest)) ≡ (x ∷ name) ∷ partsOf 32 rest
     go true t e = absurd t
     go false t e = rw e
 
 -- between blanks alone the parts are empty
 no-word : (n field : ℕ) → getD (partsOf 32 (replicate n 32)) field [] ≡ []
-unfolding partsOf
+unfolding parts
 no-word zero zero = refl
 no-word zero (suc field) = refl
 no-word (suc n) zero = refl
@@ -60,7 +61,7 @@ abbrev makeRow : List (List ℕ) → Bool
 makeRow names = every isWord names && leb (length (lined names)) rowLength
 
 all-make-row : T (every (λ l. makeRow (l .names)) table)
-unfolding every table counted text partsOf index arrayOf gridOf lined
+unfolding every table counted text parts index arrayOf gridOf lined
 all-make-row = tt
 
 made-row : (s : Satellite) (t : ℕ) → T (every isWord (namesOf s t)) × T (leb (length (lined (namesOf s t))) rowLength)

@@ -8,8 +8,10 @@ use Rattle.satellites.specs.declared.Satellite.{Satellite}
 use Rattle.satellites.specs.declared.Satellite.the-variants.{HadesD, HadesIcm, MariaG, Unne1, HadesR, Unne1b, HadesSa}
 use Rattle.satellites.specs.Satellites.{numberOf}
 use Rattle.layouts.specs.Layouts.{_to_, only, among}
+use Rattle.words.specs.Words.{text}
 use Rattle.names.specs.declared.Name.{Name}
-use Rattle.names.specs.Names.{text, words, filled, written, arrayOf, gridOf, prefixed}
+use Rattle.pages.specs.Pages.{put}
+use Rattle.names.specs.Names.{words, written, arrayOf, gridOf, prefixed}
 
 -- the satellites' own names (01, "Scope and rules"; FORMAT 2)
 abbrev pub satelliteName : Satellite → List ℕ
@@ -78,4 +80,4 @@ rowLength = 1024
 
 -- names as a row: so many letters, blanks where there is no name
 unfoldable pub rowOf : List (List ℕ) → List ℕ
-rowOf names = filled (replicate rowLength 32) (lined names)
+rowOf names = put (replicate rowLength 32) 0 (lined names)

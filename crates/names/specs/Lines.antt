@@ -4,7 +4,8 @@ use mathlib.Core.Bool.{Bool, cond, _&&_}
 use mathlib.Core.List.{List, [], _∷_}
 use lib.ListN.{length, getD, drop, replicate}
 use lib.Dec.{eqb, leb}
-use Rattle.names.specs.Names.{partsOf, filled}
+use Rattle.pages.specs.Pages.{put}
+use Rattle.names.specs.Names.{partsOf}
 use Rattle.names.specs.Fields.{rowLength}
 
 -- letters ahead of a line's names
@@ -24,4 +25,4 @@ lineOf number ty (line ∷ lines) = cond (isOf number ty line) (drop ahead line)
 
 -- the row of a satellite's type that a text holds; its lines are parted by newlines, of which the code is 10
 unfoldable pub rowIn : List ℕ → ℕ → ℕ → List ℕ
-rowIn text number ty = filled (replicate rowLength 32) (lineOf number ty (partsOf 10 text))
+rowIn text number ty = put (replicate rowLength 32) 0 (lineOf number ty (partsOf 10 text))

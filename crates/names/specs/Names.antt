@@ -1,38 +1,21 @@
--- Texts, their parts, and names (01, "The field tables"; FORMAT 6). A text is the list of its letters, and a letter is its character's
--- code.
+-- Names as texts (01, "The field tables"; FORMAT 6).
 use Prim.Native.Nat.{ℕ, zero, suc, _+_, _/_, _%_, min}
-use Prim.Native.Char.{code}
-use Prim.Native.String.{String, [] as []ˢ, _∷_ as _∷ˢ_}
-use mathlib.Core.Bool.{cond}
+use Prim.Native.String.{String}
+use mathlib.Core.Bool.{cond, not}
 use mathlib.Core.List.{List, [], _∷_, _++_, map}
 use lib.ListN.{length, replicate}
 use lib.Dec.{eqb, ltb}
+use Rattle.pages.specs.Pages.{put}
+use Rattle.words.specs.Words.{text, parts}
 use Rattle.names.specs.declared.Name.{Name}
 
--- a string as a text
-unfoldable pub text : String → List ℕ
-text []ˢ = []
-text (c ∷ˢ cs) = code c ∷ text cs
+-- the parts of a text between single separators
+abbrev pub partsOf : ℕ → List ℕ → List (List ℕ)
+partsOf separator xs = parts (λ (x : ℕ). not (eqb x separator)) xs
 
--- one letter more in front of the first part
-abbrev pub led : ℕ → List (List ℕ) → List (List ℕ)
-led x [] = (x ∷ []) ∷ []
-led x (p ∷ ps) = (x ∷ p) ∷ ps
-
--- the parts of a text, between single separators; a text with none is one part, the empty text too
-unfoldable pub partsOf : ℕ → List ℕ → List (List ℕ)
-partsOf separator [] = [] ∷ []
-partsOf separator (x ∷ xs) = cond (eqb x separator) ([] ∷ partsOf separator xs) (led x (partsOf separator xs))
-
--- the words of a string; the code of a blank is 32
+-- the parts of a string between single blanks, of which the code is 32
 abbrev pub words : String → List (List ℕ)
 words s = partsOf 32 (text s)
-
--- a room with a text at its start: the letters for which there is place, and what was behind them
-unfoldable pub filled : List ℕ → List ℕ → List ℕ
-filled room [] = room
-filled [] (x ∷ xs) = []
-filled (y ∷ room) (x ∷ xs) = x ∷ filled room xs
 
 -- no name is longer (`name-not-cut`)
 abbrev pub mostLetters : ℕ
@@ -40,7 +23,7 @@ mostLetters = 16
 
 -- a text as a Name: its letters, as many as there is place for, and zeros behind them
 unfoldable pub written : List ℕ → Name
-written xs = record { letters = min mostLetters (length xs); text = filled (replicate mostLetters 0) xs }
+written xs = record { letters = min mostLetters (length xs); text = put (replicate mostLetters 0) 0 xs }
 
 -- a number below 100 in decimal, in square brackets; the code of "0" is 48
 unfoldable pub index : ℕ → List ℕ

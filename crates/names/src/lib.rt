@@ -3,9 +3,8 @@ mod lines;
 
 ghost use mathlib.Core.Path.{_≡_};
 ghost use mathlib.Core.List.{[]};
-ghost use Prim.Native.Nat.{min};
-ghost use lib.ListN.{length, getD};
-ghost use Rattle.names.specs.Names.{partsOf, filled, written};
+ghost use lib.ListN.{getD};
+ghost use Rattle.names.specs.Names.{partsOf, written};
 ghost use Rattle.names.specs.Fields.{satelliteName, namesOf, nameOf, rowOf};
 use satellites::Satellite;
 
@@ -30,7 +29,8 @@ pub fn of(satellite: Satellite, ty: u32, field: usize) -> Name
     in_row(&names, field)
 }
 
-// The name of a field of a row: the row's word of that number. Where there is none it is empty.
+// The name of a field of a row: the row's part of that number, between single blanks, up to 16 letters of it. Where there is none it is
+// empty.
 pub fn in_row(row: &[u8], field: usize) -> Name
     ensures { λ r. ⌜ r ≡ written (getD (partsOf 32 (now (row .entry))) field []) ⌝ }
     ensures { λ _. ⌜ now (row .exit) ≡ now (row .entry) ⌝ }
@@ -97,19 +97,7 @@ impl Name {
         ensures { λ r. ⌜ r ≡ written (now (letters .entry)) ⌝ }
     {
         let mut text = [0u8; MOST_LETTERS];
-        let n = fill(&mut text, letters);
+        let n = pages::text(&mut text, 0, letters);
         Name { letters: n, text }
     }
-}
-
-// Copies the letters to the start of the room, as many as there is place for, and answers how many these are.
-fn fill(room: &mut [u8], letters: &[u8]) -> usize
-    ensures { λ r. ⌜ r ≡ min (length (now (room .entry))) (length (now (letters .entry))) ⌝ }
-    ensures { λ _. ⌜ now (room .exit) ≡ filled (now (room .entry)) (now (letters .entry)) ⌝ }
-{
-    let n = room.len();
-    if letters.len() <= n {
-        return bytes::copy(letters, room);
-    }
-    bytes::copy(&letters[0..n], room)
 }

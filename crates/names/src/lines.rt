@@ -21,7 +21,7 @@ pub(crate) fn row_in(text: &[u8], number: u32, ty: u32) -> [u8; ROW]
         let line = &text[from..end];
         if is_of(line, number, ty) {
             let mut row = [b' '; ROW];
-            crate::fill(&mut row, &line[AHEAD..]);
+            pages::text(&mut row, 0, &line[AHEAD..]);
             return row;
         }
         from = end + 1;

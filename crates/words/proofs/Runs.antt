@@ -8,7 +8,7 @@ use native.Mathlib.Numerals.{add-one}
 use native.Mathlib.Omega.{arith}
 use lib.ListN.{length, getD, take, drop, length-drop, drop-of-length-le}
 use lib.Seq.{drop-cons, drop-drop}
-use Rattle.words.specs.Words.{isLetter, led, partsOf, full, wordsOf, ahead}
+use Rattle.words.specs.Words.{isLetter, led, parts, full, wordsOf, ahead}
 
 -- ---- along a run, from place to place
 
@@ -51,29 +51,29 @@ begins (x ∷ xs) h e = go (isLetter x) e
 
 -- blanks ahead make no word
 words-behind-blanks : (xs : List ℕ) → wordsOf (drop (ahead false xs) xs) ≡ wordsOf xs
-unfolding ahead partsOf full wordsOf
+unfolding ahead parts full wordsOf
 words-behind-blanks [] = refl
 words-behind-blanks (x ∷ xs) = go (isLetter x) refl (words-behind-blanks xs)
   where
     go : (b : Bool) → isLetter x ≡ b → wordsOf (drop (ahead false xs) xs) ≡ wordsOf xs
-        → wordsOf (drop (cond (Bool·beq b false) (suc (ahead false xs)) 0) (x ∷ xs)) ≡ full (cond b (led x (partsOf xs)) ([] ∷ partsOf xs))
+        → wordsOf (drop (cond (Bool·beq b false) (suc (ahead false xs)) 0) (x ∷ xs)) ≡ full (cond b (led x (parts isLetter xs)) ([] ∷ parts isLetter xs))
     go true e h = rw e
     go false e h = h
 
 -- the first part, and what the parts behind it hold
 record Parted (xs : List ℕ) : Type 0 where
   rest : List (List ℕ)
-  parts : partsOf xs ≡ take (ahead true xs) xs ∷ rest
+  parts : parts isLetter xs ≡ take (ahead true xs) xs ∷ rest
   words : full rest ≡ wordsOf (drop (ahead true xs) xs)
 
 parted : (xs : List ℕ) → Parted xs
-unfolding ahead partsOf full wordsOf
+unfolding ahead parts full wordsOf
 parted [] = record { rest = []; parts = refl; words = refl }
 parted (x ∷ xs) = go (isLetter x) refl (parted xs)
   where
     go : (b : Bool) → isLetter x ≡ b → Parted xs → Parted (x ∷ xs)
     go true e p = record { rest = p .rest; parts = rw (e, p .parts); words = rw e (p .words) }
-    go false e p = record { rest = partsOf xs; parts = rw e; words = rw (e, e) }
+    go false e p = record { rest = parts isLetter xs; parts = rw e; words = rw (e, e) }
 
 no-letters : (k : ℕ) → ahead true [] ≡ suc k → ⊥
 unfolding ahead
@@ -98,7 +98,7 @@ module _ (line : List ℕ) where
   words-on to from e = rw (e, ← drop-drop (ahead false (drop to line)) to line) (words-behind-blanks (drop to line))
 
   pub no-words-left : (from : ℕ) → length line ≤ from → wordsOf (drop from line) ≡ []
-  unfolding partsOf full wordsOf
+  unfolding parts full wordsOf
   no-words-left from h = rw (drop-of-length-le line h)
 
   module _ (from to : ℕ) (inside : from < length line) (begun : ahead false (drop from line) ≡ 0) (ends : to ≡ from + ahead true (drop from line)) where

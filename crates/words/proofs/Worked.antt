@@ -1,29 +1,28 @@
 -- Words and what they are, computed. Assumes nothing.
 use mathlib.Core.Path.{_≡_, refl}
-use mathlib.Core.List.{List, [], _∷_, map}
+use mathlib.Core.List.{List, [], _∷_, _++_, map}
 use Prim.Native.Nat.{ℕ}
-use Prim.Native.Char.{code}
-use Prim.Native.String.{String, [] as []ˢ, _∷_ as _∷ˢ_}
 use Rattle.words.specs.declared.Number.the-variants.{Is, None}
 use Rattle.words.specs.declared.Bytes.the-variants.{Are, NotDigits, Odd, TooMany}
-use Rattle.words.specs.Words.{partsOf, full, wordsOf, wordOf}
+use Rattle.words.specs.Words.{text, parts, full, wordsOf, wordOf}
 use Rattle.words.specs.Numbers.{digitOf, areDigits, valueFrom, decimalOf, bytesOf, pairsOf, leftBy}
 
--- a string as a text: its characters' codes
-unfoldable pub text : String → List ℕ
-text []ˢ = []
-text (c ∷ˢ cs) = code c ∷ text cs
-
--- a tab and a line's end part words too
-pub words-are : map wordsOf (text "" ∷ text "  " ∷ text "a" ∷ text "  ab  c " ∷ text "a\tb\r\n" ∷ [])
-    ≡ [] ∷ [] ∷ (text "a" ∷ []) ∷ (text "ab" ∷ text "c" ∷ []) ∷ (text "a" ∷ text "b" ∷ []) ∷ []
-unfolding text partsOf full wordsOf
+-- a tab and a line's end part words too; the byte behind the space, and the greatest one, are letters
+pub words-are : map wordsOf (text "" ∷ text "  " ∷ text "a" ∷ text "  ab  c " ∷ text "a\tb\r\n" ∷ (33 ∷ 128 ∷ 255 ∷ 0 ∷ []) ∷ [])
+    ≡ [] ∷ [] ∷ (text "a" ∷ []) ∷ (text "ab" ∷ text "c" ∷ []) ∷ (text "a" ∷ text "b" ∷ []) ∷ ((33 ∷ 128 ∷ 255 ∷ []) ∷ []) ∷ []
+unfolding text parts full wordsOf
 words-are = refl
 
 -- two words, and behind them empty ones
 pub word-is : map (λ (n : ℕ). wordOf n (text "  ab  c ")) (0 ∷ 1 ∷ 2 ∷ 3 ∷ []) ≡ text "ab" ∷ text "c" ∷ [] ∷ [] ∷ []
-unfolding text partsOf full wordsOf
+unfolding text parts full wordsOf
 word-is = refl
+
+-- the digits, and the letters that are next to them
+pub digits-are : map digitOf (text "0123456789ABCDEFabcdef" ++ text "/:@G`g")
+    ≡ 0 ∷ 1 ∷ 2 ∷ 3 ∷ 4 ∷ 5 ∷ 6 ∷ 7 ∷ 8 ∷ 9 ∷ 10 ∷ 11 ∷ 12 ∷ 13 ∷ 14 ∷ 15 ∷ 10 ∷ 11 ∷ 12 ∷ 13 ∷ 14 ∷ 15 ∷ 16 ∷ 16 ∷ 16 ∷ 16 ∷ 16 ∷ 16 ∷ []
+unfolding text digitOf
+digits-are = refl
 
 -- the greatest number, one more, leading zeros, and what is none
 pub decimals-are : map decimalOf
@@ -39,8 +38,8 @@ pub pairs-are : map (λ (t : List ℕ). pairsOf t (1 ∷ 2 ∷ []))
 unfolding text digitOf areDigits bytesOf pairsOf
 pairs-are = refl
 
-pub bytes-are : map (λ (t : List ℕ). leftBy (pairsOf t (1 ∷ 2 ∷ [])) t (1 ∷ 2 ∷ []))
+pub bytes-are : map (λ (t : List ℕ). leftBy (pairsOf t (7 ∷ 8 ∷ [])) t (7 ∷ 8 ∷ []))
     (text "0aFF" ∷ text "aF" ∷ text "" ∷ text "010203" ∷ text "aAf" ∷ text "0g" ∷ [])
-    ≡ (0x0A ∷ 0xFF ∷ []) ∷ (0xAF ∷ 2 ∷ []) ∷ (1 ∷ 2 ∷ []) ∷ (1 ∷ 2 ∷ []) ∷ (1 ∷ 2 ∷ []) ∷ (1 ∷ 2 ∷ []) ∷ []
+    ≡ (0x0A ∷ 0xFF ∷ []) ∷ (0xAF ∷ 8 ∷ []) ∷ (7 ∷ 8 ∷ []) ∷ (7 ∷ 8 ∷ []) ∷ (7 ∷ 8 ∷ []) ∷ (7 ∷ 8 ∷ []) ∷ []
 unfolding text digitOf areDigits bytesOf pairsOf
 bytes-are = refl

@@ -20,7 +20,7 @@ digitOf x =
     (cond (between 97 102 x) (x - 97 + 10)
     16))
 
--- each letter is a digit of that base
+-- each letter is a digit of that base; of a base above 16 every letter is one
 unfoldable pub areDigits : ℕ → List ℕ → Bool
 areDigits base [] = true
 areDigits base (x ∷ xs) = ltb (digitOf x) base && areDigits base xs

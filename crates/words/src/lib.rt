@@ -73,7 +73,7 @@ fn run_end(text: &[u8], at: usize, letters: bool) -> usize
     end
 }
 
-// Whether each letter is a digit of that base, up to 16; an empty text has none that is not.
+// Whether each letter is a digit of that base; an empty text has none that is not. A base above 16 takes every letter.
 pub fn are_digits(text: &[u8], base: u8) -> bool
     ensures { λ r. ⌜ r ≡ areDigits base (now (text .entry)) ⌝ }
     ensures { λ _. ⌜ now (text .exit) ≡ now (text .entry) ⌝ }

@@ -253,8 +253,10 @@ int main(void) {
         differ += agrees(line) ? 0 : 1;
     }
     free(line);
+    if (made == 0)
+        stop("there are no cases");
     if (passed_over > 0)
         printf("%lu calls of the leaves are passed over\n", passed_over);
     printf("%lu cases, %lu differ\n", made, differ);
-    return made == 0 || differ != 0;
+    return differ != 0;
 }

@@ -2,6 +2,7 @@
 #ifndef WORDS_H
 #define WORDS_H
 
+#include <ctype.h>
 #include <errno.h>
 #include <stdint.h>
 #include <stdio.h>
@@ -56,16 +57,16 @@ static size_t list(char *word, uint32_t values[MOST]) {
 }
 
 static unsigned digit(char sign) {
-    const char *digits = "0123456789ABCDEF", *at = strchr(digits, sign);
-    if (sign == 0 || at == NULL)
+    const char *digits = "0123456789abcdef", *at = memchr(digits, tolower((unsigned char)sign), 16);
+    if (at == NULL)
         stop("a digit is none");
     return (unsigned)(at - digits);
 }
 
-/* Pairs of digits, so many times over, go behind the first n bytes; the answer is how many there are then. */
+/* Pairs of digits, so many times over but at least once, go behind the first n bytes; the answer is how many there are then. */
 static size_t piece(const char *digits, size_t times, uint8_t *out, size_t n) {
     size_t pairs = strlen(digits) / 2;
-    if (strlen(digits) % 2 != 0 || pairs == 0 || times > MOST_BYTES || pairs * times > MOST_BYTES - n)
+    if (strlen(digits) % 2 != 0 || pairs == 0 || times == 0 || times > MOST_BYTES || pairs * times > MOST_BYTES - n)
         stop("odd, no or too many digits");
     for (size_t k = 0; k < pairs * times; k++)
         out[n + k] = (uint8_t)(digit(digits[k % pairs * 2]) * 16 + digit(digits[k % pairs * 2 + 1]));

@@ -1,12 +1,22 @@
 //! Frames damaged anywhere, cut, lengthened, mislabelled and offered as another satellite's.
 
 use crate::drawing::{all_rows, is_long, Maker};
-use crate::rules::table::{Row, TABLE};
+use crate::rules::table::{Row, Satellite, TABLE};
 
 fn fitting_edit(maker: &mut Maker, satellite: u32, row: &Row, frame: &[u8]) {
     let field = maker.between(0, row.fields() - 1);
     let value = maker.value(row.widths().nth(field).unwrap_or(0));
     maker.edit(satellite, field as u32, value, frame);
+}
+
+/// A byte's place among those that all senders of a row have. A size byte is not among them: whoever sends one damages it.
+fn place_of_all(sender: &Satellite, place: usize) -> Option<usize> {
+    let size = sender.type_place() - 1;
+    match sender.has_size {
+        true if place == size => None,
+        true if place > size => Some(place - 1),
+        _ => Some(place),
+    }
 }
 
 fn each_byte(maker: &mut Maker) {
@@ -15,7 +25,8 @@ fn each_byte(maker: &mut Maker) {
         let body = sender.type_place() + 1..right.len() - 2;
         for place in 0..right.len() {
             let left_out = is_long(row) && body.contains(&place) && place % 3 != 0;
-            if left_out || !maker.has_turn(satellite, row, place) {
+            let has_turn = place_of_all(sender, place).map_or(true, |k| maker.has_turn(satellite, row, k));
+            if left_out || !has_turn {
                 continue;
             }
             let mut frame = right.clone();

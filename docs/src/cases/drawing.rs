@@ -141,7 +141,7 @@ impl Maker {
         frames::fill_head(sender, part_bytes, &mut frame);
         frame.push(frames::type_byte(number, address));
         frame.extend((1..part_bytes).map(|_| self.byte()));
-        frames::close(&mut frame[start..]);
+        frames::seal(&mut frame[start..]);
         frame
     }
 

@@ -1,6 +1,7 @@
 //! Calls of the leaves, drawn: most of them a field or a register that there is, and some that is none.
 
 use crate::drawing::Maker;
+use crate::rules::frames::{FAR, NEAR};
 
 /// Few bytes or some, at times all of one sort, so that a bit of the other sort shows.
 fn part(maker: &mut Maker) -> Vec<u8> {
@@ -17,7 +18,7 @@ fn register(maker: &mut Maker) -> (u32, u32, u32) {
     let start = maker.draw() as u32;
     let far = maker.between(2, 32);
     match maker.between(0, 5) {
-        0 | 1 => (12, 17, start),
+        0 | 1 => (NEAR as u32, FAR as u32, start),
         2 => (maker.between(0, 40) as u32, maker.between(0, 40) as u32, start),
         _ => (maker.between(1, far - 1) as u32, far as u32, start),
     }

@@ -2,7 +2,7 @@
 
 use crate::drawing::Maker;
 use crate::rules::table::TABLE;
-use crate::rules::temperatures::{first_temperature, summary, temperature, SENSORS};
+use crate::rules::temperatures::{summary, temperature, temperature_fields, TEN_TEMPERATURES};
 use crate::rules::{frames, leaves};
 use crate::words::{put_bytes, put_digits, put_list};
 use std::fmt::Write as _;
@@ -143,8 +143,8 @@ impl Maker {
         self.given_bytes(frame);
         if refusal != 0 {
             self.day_told((refusal, 0, 0.0, 0.0, 0));
-        } else if number == 2 {
-            self.day_told(summary(&room[first_temperature(count as usize)..][..SENSORS]));
+        } else if number == TEN_TEMPERATURES {
+            self.day_told(summary(&room[temperature_fields(number, count as usize)]));
         } else {
             self.text.push_str("no temperatures");
             self.end_line();
@@ -200,7 +200,7 @@ impl Maker {
         match TABLE.get(number as usize) {
             None => self.text.push_str("none"),
             Some(own) => {
-                let first = own.row(2).map_or(0, |row| first_temperature(row.fields()));
+                let first = own.row(TEN_TEMPERATURES).map_or(0, |row| temperature_fields(row.number, row.fields()).start);
                 let (size, type_byte) = (u8::from(own.has_size), own.type_place());
                 self.put(format_args!("{} {} {size} {type_byte} {first}", own.address, own.training));
             }

@@ -27,18 +27,14 @@ Prints COUNT cases with contents drawn from SEED: first those picked by hand, th
 then mixed ones until there are COUNT. With fewer than the groups have, just the groups.
 With the word answer: answers the calls on standard input, one to a line.";
 
+/// Behind a complaint about words.
+const SEE: &str = "; see cases --help";
+
 fn number(word: Option<&String>, default: u64) -> Result<u64, String> {
     match word {
         None => Ok(default),
-        Some(word) => word.parse().map_err(|_| format!("cases: \"{word}\" is no number from 0 to {}", u64::MAX)),
+        Some(word) => word.parse().map_err(|_| format!("cases: \"{word}\" is no number from 0 to {}{SEE}", u64::MAX)),
     }
-}
-
-fn seed_and_count(words: &[String]) -> Result<(u64, u64), String> {
-    if let Some(word) = words.get(2) {
-        return Err(format!("cases: one word too many, \"{word}\""));
-    }
-    Ok((number(words.first(), DEFAULT_SEED)?, number(words.get(1), DEFAULT_COUNT)?))
 }
 
 fn print_answers() -> Result<(), String> {
@@ -73,16 +69,19 @@ fn print_all(seed: u64, count: u64) -> Result<(), String> {
 }
 
 fn run(words: &[String]) -> Result<(), String> {
-    if words == ["answer"] {
+    let answers = words.first().is_some_and(|word| word == "answer");
+    if let Some(word) = words.get(if answers { 1 } else { 2 }) {
+        return Err(format!("cases: one word too many, \"{word}\"{SEE}"));
+    }
+    if answers {
         return print_answers();
     }
-    let (seed, count) = seed_and_count(words)?;
-    print_all(seed, count)
+    print_all(number(words.first(), DEFAULT_SEED)?, number(words.get(1), DEFAULT_COUNT)?)
 }
 
 fn main() -> ExitCode {
     let words: Vec<String> = std::env::args().skip(1).collect();
-    if words.iter().any(|word| word == "--help") {
+    if words.iter().any(|word| word == "--help" || word == "-h") {
         println!("{USAGE}");
         return ExitCode::SUCCESS;
     }

@@ -2,7 +2,7 @@
 
 use crate::drawing::{all_rows, written, Maker};
 use crate::rules::table::TABLE;
-use crate::rules::temperatures::first_temperature;
+use crate::rules::temperatures::{temperature_fields, TEN_TEMPERATURES};
 
 /// Cut to fewer bits, many of these would be a satellite's number.
 const FAR: [u32; 14] = [
@@ -72,7 +72,7 @@ pub fn spoil(maker: &mut Maker, codes: &mut [u32], times: usize) {
 }
 
 fn accepted_summaries(maker: &mut Maker) {
-    maker.heading("summaries: all errors, one answering, equal codes, the ends");
+    maker.heading("summaries: all errors, one answering, equal codes, the ends, all above zero and all below");
     maker.summary(&[255; 10]);
     for place in 0..10 {
         for answering in [0, 79, 80, 81, 254, maker.between(0, 254) as u32] {
@@ -89,8 +89,10 @@ fn accepted_summaries(maker: &mut Maker) {
         codes[place] = 0;
         codes[9 - place] = 254;
         maker.summary(&codes);
-        maker.summary(&codes.iter().map(|code| code.max(&80)).copied().collect::<Vec<u32>>());
-        maker.summary(&codes.iter().map(|code| code.min(&80)).copied().collect::<Vec<u32>>());
+        for (coldest, warmest) in [(81, 254), (0, 79)] {
+            let codes: Vec<u32> = (0..10).map(|_| maker.between(coldest, warmest) as u32).collect();
+            maker.summary(&codes);
+        }
     }
     maker.heading("summaries: drawn, with many sensor errors");
     for _ in 0..100 {
@@ -146,10 +148,10 @@ pub fn days(maker: &mut Maker) {
     maker.heading("days: the temperatures of frames, of frames that have none, and of refused ones");
     for (satellite, sender, row) in all_rows() {
         let mut frame = maker.right_frame(sender, row);
-        if row.number == 2 {
+        if row.number == TEN_TEMPERATURES {
             for _ in 0..5 {
                 let mut values = maker.wide_values(row);
-                values.truncate(first_temperature(row.fields()));
+                values.truncate(temperature_fields(row.number, row.fields()).start);
                 values.extend(codes(maker, 10));
                 maker.day(satellite, &written(satellite, row, &values));
             }

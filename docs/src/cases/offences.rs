@@ -10,7 +10,7 @@
 //! satellite which the number's low bits (or its remainder) give.
 
 use crate::drawing::{all_rows, is_long, Maker};
-use crate::rules::table::{Row, Satellite, TABLE};
+use crate::rules::table::{Row, Satellite, SYNC, TABLE};
 
 /// Which offences each call can have. Only membership counts: the order here is that in which cases are made, and says nothing about
 /// which of two offences is refused, which the rules alone decide.
@@ -158,7 +158,7 @@ fn offending_frame(maker: &mut Maker, sender: &Satellite, row: &Row, offences: &
         frame[start - 1] = size;
     }
     maker.resize(&mut frame, length);
-    let damaged = turn % (sender.training + 2);
+    let damaged = turn % (sender.training + SYNC.len());
     if has(3) {
         frame[damaged] ^= maker.change();
     }
@@ -235,7 +235,7 @@ pub fn write_call(maker: &mut Maker, satellite: u32, row: &Row, offences: &[u32]
 /// Which bytes of training and sync are damaged in turn. By itself offence 3 damages all of them, in the first two rows, which are
 /// short. In other rows and in a pair it damages three, others in each row.
 fn turns(satellite: u32, sender: &Satellite, place: usize, offences: &[u32]) -> std::ops::Range<usize> {
-    let heads = sender.training + 2;
+    let heads = sender.training + SYNC.len();
     let in_pair = (5 * satellite as usize + 7 * place + 3 * offences.iter().sum::<u32>() as usize) % heads;
     match (offences.contains(&3), offences.len(), place) {
         (true, 1, 0) => 0..heads - 4,

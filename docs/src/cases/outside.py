@@ -6,7 +6,7 @@
 Checksums are compared with Python's own binascii.crc_hqx. Scrambled and unscrambled parts with GNU Radio's
 digital.scrambler_bb and descrambler_bb where that is installed (Debian: apt-get install gnuradio, and Debian's own
 python3); where it is not, that is said and they are left out. Fields have no outside program: they are compared with
-arithmetic on one whole number. Not a part of the gate.
+arithmetic on one whole number. Where something differs, or nothing is compared, the status is 1. Not a part of the gate.
 
 x^17 + x^12 + 1 is the G3RUH scrambler. GNU Radio's register shifts its earliest bit out at the bottom, so its seed is
 the start with its bits in reverse order, its mask has a bit for each distance counted from there, and what it puts out
@@ -111,8 +111,8 @@ def main():
         if said != stored(word, given, answer):
             differ += 1
             print(f"differs: {call}: stored {answer}, outside {said}")
-    print(", ".join(f"{n} {word}" for word, n in sorted(compared.items())) + f": {differ} differ")
-    return 1 if differ else 0
+    print((", ".join(f"{n} {word}" for word, n in sorted(compared.items())) or "nothing") + f": {differ} differ")
+    return 1 if differ or not compared else 0
 
 
 if __name__ == "__main__":

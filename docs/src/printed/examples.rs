@@ -125,10 +125,9 @@ const DAMAGES: [Damage; 8] = [
 /// Another type on the same body, under a right checksum.
 fn relabel(sender: &Satellite, frame: &mut [u8], number: u32) {
     let part = &mut frame[sender.type_place()..];
-    let end = part.len() - 2;
-    frames::unscramble_body(&mut part[1..end]);
+    frames::unseal(part);
     part[0] = frames::type_byte(number, sender.address);
-    frames::close(part);
+    frames::seal(part);
 }
 
 /// The damaged frame, if it is refused as it is meant to be.

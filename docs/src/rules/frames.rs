@@ -3,16 +3,27 @@
 use super::leaves::{checksum, field, fits, replace, scramble, unscramble};
 use super::table::{Row, Satellite, LONGEST, SYNC, TABLE, TRAINING};
 
+/// 01, "What is refused, and in which order": the meaning of those that a frame can show.
+pub const REFUSALS: [(u32, &str); 7] = [
+    (2, "fewer bytes than training, sync, size byte if any, and type byte"),
+    (3, "training or sync differs"),
+    (4, "address is another's"),
+    (5, "type not carried by this satellite"),
+    (6, "size byte differs from the table"),
+    (7, "buffer length is not the frame's length"),
+    (9, "checksum differs"),
+];
+
 // 01, "Scrambler": the distances of the two earlier sent bits, and the number whose low bits are those before the body.
-const NEAR: usize = 12;
-const FAR: usize = 17;
+pub const NEAR: usize = 12;
+pub const FAR: usize = 17;
 const START: u32 = 0x2C35_0000;
 
-pub fn scramble_body(body: &mut [u8]) {
+fn scramble_body(body: &mut [u8]) {
     scramble(NEAR, FAR, START, body);
 }
 
-pub fn unscramble_body(body: &mut [u8]) {
+fn unscramble_body(body: &mut [u8]) {
     unscramble(NEAR, FAR, START, body);
 }
 
@@ -37,21 +48,27 @@ pub fn fill_head(sender: &Satellite, bytes: usize, head: &mut [u8]) {
 }
 
 /// Takes type byte, clear body and two bytes of room; leaves them as they are sent.
-pub fn close(part: &mut [u8]) {
+pub fn seal(part: &mut [u8]) {
     let end = part.len() - 2;
     let sum = checksum(&part[..end]);
     part[end..].copy_from_slice(&sum.to_be_bytes());
     scramble_body(&mut part[1..end]);
 }
 
+/// Takes type byte, body and checksum as they are sent, and leaves the body clear. Answers the checksum that was sent and the one that
+/// the rest has.
+pub fn unseal(part: &mut [u8]) -> (u16, u16) {
+    let (covered, sum) = part.split_at_mut(part.len() - 2);
+    unscramble_body(&mut covered[1..]);
+    (u16::from_be_bytes([sum[0], sum[1]]), checksum(covered))
+}
+
 /// The clear copy of type byte, body and checksum, if the checksum agrees.
 fn open<'a>(part: &[u8], copy: &'a mut [u8; LONGEST]) -> Option<&'a mut [u8]> {
-    let end = part.len() - 2;
     let clear = &mut copy[..part.len()];
     clear.copy_from_slice(part);
-    unscramble_body(&mut clear[1..end]);
-    let sum = checksum(&clear[..end]);
-    if part[end..] == sum.to_be_bytes() { Some(clear) } else { None }
+    let (sent, computed) = unseal(clear);
+    if sent == computed { Some(clear) } else { None }
 }
 
 /// Tests 1 to 7 in that order.
@@ -104,7 +121,7 @@ fn writing(satellite: u32, number: u32, values: &[u32], output: &mut [u8]) -> Re
         replace(&mut part[1..], place, width, value);
         place += width;
     }
-    close(part);
+    seal(part);
     Ok(length)
 }
 
@@ -124,7 +141,7 @@ fn editing(satellite: u32, frame: &mut [u8], number: u32, value: u32) -> Result<
     let (start, width) = row.place(number).ok_or((13u32, 0u32))?;
     if !fits(value, width) { return Err((11, number)); }
     replace(&mut clear[1..], start, width, value);
-    close(clear);
+    seal(clear);
     part.copy_from_slice(clear);
     Ok(frame.len())
 }

@@ -1,4 +1,4 @@
-//! The names of satellites and fields. Those of the fields come from the
+//! The names of satellites, types and fields. Those of the fields come from the
 //! satellite teams' documents: here they are as printed there, damage and all,
 //! as far as a row of 01 needs them, and how they are read.
 
@@ -194,6 +194,19 @@ pub const SATELLITES: [(&str, &Document); 7] = [
     ("HADES-R", &DOCUMENT_002),
     ("UNNE-1B", &DOCUMENT_004),
     ("HADES-SA", &DOCUMENT_000),
+];
+
+/// The names of the types: the headings of document 002, which has a table for
+/// every type of 01 ("Sunsenors" there is a misprint).
+pub const TYPES: [(u32, &str); 8] = [
+    (2, "Temperature"),
+    (5, "Temp stats"),
+    (6, "Sunsensors"),
+    (7, "ICM game messages"),
+    (8, "Deploy"),
+    (10, "Nebrija University Game"),
+    (11, "Fraunhofer experiment information"),
+    (12, "Ephemeris"),
 ];
 
 /// The names of the fields of a satellite's type, as many as 01 has fields. A

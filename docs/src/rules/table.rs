@@ -55,7 +55,7 @@ pub static TABLE: [Satellite; 7] = [
 ];
 
 /// The most bytes any row has from type byte to checksum.
-pub const LONGEST: usize = 135;
+pub const LONGEST: usize = TYPE_6.bytes;
 pub const TRAINING: u8 = 0xAA;
 pub const SYNC: [u8; 2] = [0xBF, 0x35];
 

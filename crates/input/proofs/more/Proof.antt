@@ -7,14 +7,17 @@ use Rattle.input.proofs.more.Statement.{statement}
 use Rattle.input.proofs.more.Tie as tie
 
 abbrev Inv-loop : tie.InvT-loop
-Inv-loop part₀ line₀ letters ended letters₀ ended₀ reads₀ part line letters' ended' reads =
+Inv-loop part₀ line₀ letters letters₀ reads₀ part line letters' reads =
     (reads ≤ 0xFFFFFFFFFFFF) × ((length part ≡ length part₀) × (length line ≡ length line₀))
 
 abbrev μ-loop : tie.MeasureT-loop
-μ-loop part₀ line₀ letters ended letters₀ ended₀ reads₀ part line letters' ended' reads = 0xFFFFFFFFFFFF - reads
+μ-loop part₀ line₀ letters letters₀ reads₀ part line letters' reads = 0xFFFFFFFFFFFF - reads
 
 loop-holds : tie.Need-loop-holds Inv-loop μ-loop
 loop-holds c = search needs
+
+read-requires : tie.Need-read-requires Inv-loop μ-loop
+read-requires c κs = search needs
 
 last-requires : tie.Need-last-requires Inv-loop μ-loop
 last-requires c κs = search needs
@@ -27,9 +30,6 @@ same-length-2 c = search needs
 
 returns : tie.Need-returns Inv-loop μ-loop
 returns c = search needs
-
-read-requires : tie.Need-read-requires Inv-loop μ-loop
-read-requires c κs = search needs
 
 find-requires : tie.Need-find-requires Inv-loop μ-loop
 find-requires c κs = search needs
@@ -46,8 +46,8 @@ part-put-end c = search needs
 put-requires : tie.Need-put-requires Inv-loop μ-loop
 put-requires c κs = search needs
 
-add-t25 : tie.Need-add-t25 Inv-loop μ-loop
-add-t25 c = search needs
+add-t23 : tie.Need-add-t23 Inv-loop μ-loop
+add-t23 c = search needs
 
 whole-requires : tie.Need-whole-requires Inv-loop μ-loop
 whole-requires c κs = search needs
@@ -89,17 +89,17 @@ more-spec =
     Inv-loop
     μ-loop
     loop-holds
+    read-requires
     last-requires
     same-length
     same-length-2
     returns
-    read-requires
     find-requires
     sub-put
     part-put-start
     part-put-end
     put-requires
-    add-t25
+    add-t23
     whole-requires
     same-length-3
     same-length-4

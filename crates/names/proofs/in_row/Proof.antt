@@ -6,8 +6,9 @@ use native.Mathlib.Omega.{arith}
 use borrow.Author.Needs.{needs}
 use denote.Ref.{now}
 use lib.ListN.{length, getD, take, drop}
+use Rattle.words.proofs.Runs.{one-fewer}
 use Rattle.names.specs.Names.{partsOf, written}
-use Rattle.names.proofs.Parts.{partsFrom, parts-start, parts-end, parts-next, getD-past}
+use Rattle.names.proofs.Parts.{partsFrom, parts-start, parts-end, parts-next}
 use Rattle.names.proofs.in_row.Statement.{statement}
 use Rattle.names.proofs.in_row.Tie as tie
 
@@ -59,7 +60,7 @@ loop-again c =
     let a = c .before .before .before .before .before .args in
     let find = c .before .find in
     let next = parts-next 32 (now (a .row)) (l .from) (find .result) (omega arith) (find .ensures .0) in
-    let past = getD-past (take (find .result - l .from) (drop (l .from) (now (a .row)))) (partsFrom 32 (now (a .row)) (find .result + 1)) in
+    let past = one-fewer (take (find .result - l .from) (drop (l .from) (now (a .row)))) (partsFrom 32 (now (a .row)) (find .result + 1)) in
     (omega (arith, find .ensures .1), sym (past (l .left) (c .if1 .left)) ∙ rw next at (l .inv .1))
 
 sub-of-2 : tie.Need-sub-of-2 Inv-loop μ-loop

@@ -3,7 +3,8 @@ use Prim.Native.Nat.{ℕ}
 use mathlib.Core.Path.{_∙_, ap}
 use mathlib.Core.List.{[], _++_}
 use lib.ListN.{getD}
-use Rattle.names.specs.Names.{text, partsOf, written}
+use Rattle.words.specs.Words.{text}
+use Rattle.names.specs.Names.{partsOf, written}
 use Rattle.names.specs.Fields.{lined}
 use Rattle.names.proofs.Rows.{satelliteNames, satellite-in-row}
 use borrow.Author.Needs.{needs}

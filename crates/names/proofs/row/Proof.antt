@@ -3,7 +3,8 @@ use Rattle.refusals.specs.Tests.{same}
 use Rattle.satellites.proofs.Laws.{number-below}
 use Rattle.layouts.specs.Layouts.{counted, among}
 use Rattle.layouts.specs.Rules.{every}
-use Rattle.names.specs.Names.{text, partsOf, index, arrayOf, gridOf}
+use Rattle.words.specs.Words.{text, parts}
+use Rattle.names.specs.Names.{index, arrayOf, gridOf}
 use Rattle.names.specs.Fields.{table, lined}
 use Rattle.names.proofs.Kept.{keeps, holdsTable, kept}
 use borrow.Author.Needs.{needs}
@@ -20,7 +21,7 @@ row-in-requires : tie.Need-row-in-requires
 row-in-requires c κs = rw (c .number .ensures) (number-below (c .before .before .args .satellite))
 
 returns : tie.Need-returns
-unfolding holdsTable keeps partsOf text index arrayOf gridOf table lined every same counted among
+unfolding holdsTable keeps parts text index arrayOf gridOf table lined every same counted among
 returns c =
     let a = c .before .before .before .args in
     kept _ (a .satellite) (a .ty) tt (c .before .number .ensures) (c .row-in .ensures)

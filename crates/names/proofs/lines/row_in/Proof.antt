@@ -6,7 +6,8 @@ use borrow.Author.Needs.{needs}
 use denote.Ref.{now}
 use lib.ListN.{length, take, drop, replicate, length-drop}
 use lib.Seq.{take-all}
-use Rattle.names.specs.Names.{partsOf, filled}
+use Rattle.pages.specs.Pages.{put}
+use Rattle.names.specs.Names.{partsOf}
 use Rattle.names.specs.Lines.{lineOf, rowIn}
 use Rattle.names.specs.Fields.{rowLength}
 use Rattle.names.proofs.Parts.{partsFrom, parts-start, parts-end, line-here, line-past, long}
@@ -38,24 +39,24 @@ part-line-end c = search needs
 is-of-requires : tie.Need-is-of-requires Inv-loop μ-loop
 is-of-requires c κs = search needs
 
-slice-aggregate-fill : tie.Need-slice-aggregate-fill Inv-loop μ-loop
-slice-aggregate-fill c = search needs
+slice-aggregate-text : tie.Need-slice-aggregate-text Inv-loop μ-loop
+slice-aggregate-text c = search needs
 
-sub-fill : tie.Need-sub-fill Inv-loop μ-loop
-sub-fill c =
+sub-text : tie.Need-sub-text Inv-loop μ-loop
+sub-text c =
     let a = c .before .before .before .before .before .before .before .before .args in
     let l = c .before .before .before .before .before .before .loop in
     let find = c .before .before .before .before .find in
     long (a .number) (a .ty) (take (find .result - l .from) (drop (l .from) (now (a .text)))) (sym (c .before .before .is-of .ensures) ∙ c .before .if1 .taken)
 
-part-fill-start : tie.Need-part-fill-start Inv-loop μ-loop
-part-fill-start c = search (needs, sub-fill c)
+part-text-start : tie.Need-part-text-start Inv-loop μ-loop
+part-text-start c = search (needs, sub-text c)
 
-part-fill-end : tie.Need-part-fill-end Inv-loop μ-loop
-part-fill-end c = search needs
+part-text-end : tie.Need-part-text-end Inv-loop μ-loop
+part-text-end c = search needs
 
-fill-requires : tie.Need-fill-requires Inv-loop μ-loop
-fill-requires c κs = search needs
+text-requires : tie.Need-text-requires Inv-loop μ-loop
+text-requires c κs = search needs
 
 returns : tie.Need-returns Inv-loop μ-loop
 unfolding rowIn
@@ -67,7 +68,7 @@ returns c =
     let is = sym (c .before .before .before .before .before .is-of .ensures) ∙ c .before .before .before .before .if1 .taken in
     let names = take-all (length line - 11) (drop 11 line) (omega (arith, length-drop 11 line)) in
     let here = line-here (a .number) (a .ty) (now (a .text)) (l .from) (find .result) (omega arith) (find .ensures .0) is in
-    c .before .fill .ensures .1 ∙ ap (filled (replicate rowLength 32)) (names ∙ here ∙ l .inv .1)
+    c .before .text .ensures .1 .0 ∙ ap (put (replicate rowLength 32) 0) (names ∙ here ∙ l .inv .1)
 
 add-from : tie.Need-add-from Inv-loop μ-loop
 add-from c = search needs
@@ -85,11 +86,11 @@ loop-again c =
     (omega (arith, find .ensures .1), past ∙ l .inv .1)
 
 returns-2 : tie.Need-returns-2 Inv-loop μ-loop
-unfolding rowIn lineOf filled
+unfolding rowIn lineOf put
 returns-2 c =
     let l = c .before .loop in
     let a = c .before .before .before .args in
-    ap (filled (replicate rowLength 32)) (rw (parts-end 10 (now (a .text)) (l .from) (omega arith)) at (l .inv .1))
+    ap (put (replicate rowLength 32) 0) (rw (parts-end 10 (now (a .text)) (l .from) (omega arith)) at (l .inv .1))
 
 pub row-in-spec : {M : Type 1} → statement M
 row-in-spec =
@@ -103,11 +104,11 @@ row-in-spec =
     part-line-start
     part-line-end
     is-of-requires
-    slice-aggregate-fill
-    sub-fill
-    part-fill-start
-    part-fill-end
-    fill-requires
+    slice-aggregate-text
+    sub-text
+    part-text-start
+    part-text-end
+    text-requires
     returns
     add-from
     loop-less
