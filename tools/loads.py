@@ -23,7 +23,7 @@ def stop_unless(holds, *what):
 
 
 def ask(commands):
-    """The answers to commands in one run, as lists of lines. Lines that a command takes stand below it, up to an empty one."""
+    """The answers to commands in one run, as lists of lines. Lines that a command takes are below it, up to an empty one."""
     told = subprocess.run(["./tolimbar"], input="\n".join(commands) + "\n", capture_output=True, text=True, check=True)
     answers = told.stdout.split("\n\n")
     stop_unless(answers.pop() == "", "the last answer does not end with an empty line")

@@ -19,7 +19,7 @@ pub(crate) fn temperature(page: &mut [u8], codes: &[u32]) -> usize {
     }
 }
 
-// With no degrees, 0.0 stands for them.
+// Where there are no degrees, 0.0 is put in their place.
 fn put_reading(page: &mut [u8], reading: Reading) -> usize {
     match reading {
         Reading::Degrees(degrees) => put_told(page, refusals::ACCEPTED, b" 1", degrees),

@@ -118,7 +118,7 @@ fn compared(text: &[u8], line: u64, page: &mut [u8]) -> Verdict {
 // The bytes of ` | `.
 const BAR: usize = 3;
 
-// Where ` | ` stands between a call and its answer; where it does not, the text's end.
+// Where ` | ` is, which parts a call from its answer; the text's end where there is none.
 fn parted(text: &[u8]) -> usize
     ensures { λ r. ⌜ r ≤ length (now (text .entry)) ⌝ }
 {
@@ -135,7 +135,7 @@ fn parted(text: &[u8]) -> usize
     text.len()
 }
 
-// Whether the answer that stands behind the call is the one that the call gets.
+// Whether the answer behind the call is the one that the call gets.
 fn agrees(text: &[u8], page: &mut [u8]) -> bool {
     let end = parted(text);
     if text.len() - end < BAR {

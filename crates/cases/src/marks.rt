@@ -1,5 +1,5 @@
-// The marks that stand in a room and in an output before a call, another in each place, so that it can be seen what the call filled and
-// that all else stayed where it was.
+// The marks that a room and an output hold before a call, another in each place: so one sees what the call filled, and that all else
+// stayed where it was.
 ghost use Prim.Native.Nat.{_≤_};
 ghost use lib.ListN.{length};
 
@@ -7,7 +7,7 @@ fn of_place(k: usize) -> u32 {
     4_000_000_000 + (k % 65536) as u32
 }
 
-// Neither training nor sync nor a type byte where they stand.
+// Neither training nor sync nor a type byte has this value at its place.
 fn of_byte(k: usize) -> u8 {
     208 + (k % 47) as u8
 }

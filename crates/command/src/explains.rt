@@ -109,7 +109,7 @@ fn parts(satellite: Satellite, frame: &[u8]) {
     printing::text(b"\n");
 }
 
-// The size byte stands ahead of the type byte.
+// The size byte is ahead of the type byte.
 fn size(frame: &[u8], at: usize) {
     printing::text(b"size: ");
     if at == 0 {

@@ -42,7 +42,7 @@ fn least_words(asked: Asked) -> usize {
     }
 }
 
-// How many words stand behind the frame: field and value.
+// How many words are behind the frame: field and value.
 fn words_behind(asked: Asked) -> usize {
     match asked {
         Asked::Read => 0,

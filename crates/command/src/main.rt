@@ -1,7 +1,7 @@
 // The operators' command. A command is words: the program's arguments, or a line of standard input. `help` lists the commands.
 //
 // It says what the proved library answers: read, written and edited frames, readings, layouts, names. Each answer to a line ends with an
-// empty line. A bad word is told in one line, `error: ..`, and a refusal in one, `refused N: ..`; the next line is still answered.
+// empty line. A bad word is answered by one line, `error: ..`, and a refusal by one, `refused N: ..`; the next line is still answered.
 mod changes;
 mod commands;
 mod explains;

@@ -1,4 +1,4 @@
-/* Makes the calls of cases (docs/CASES.md) by include/tolimbar.h alone, and tells each whose answer is not the one behind its bar.
+/* Makes the calls of cases (docs/CASES.md) by include/tolimbar.h alone, and prints each whose answer is not the one behind its bar.
  * Every lent array has marks on both sides of it: a call that touches one of these, or changes what it was lent to read, differs.
  * Calls of the leaves are passed over and counted, since C has no function for them.
  * Exits with 0 where all agree, 1 where one differs or there is none, and 2 at a line that is no case. */
@@ -42,7 +42,7 @@ static void put_bits(float degrees) {
     put(" %08X", bits);
 }
 
-/* What is lent stands in the middle: AROUND marks, the lent part, and AROUND marks. */
+/* What is lent is in the middle: AROUND marks, the lent part, and AROUND marks. */
 static uint8_t byte_space[AROUND + MOST_BYTES + AROUND];
 static uint32_t place_space[AROUND + MOST + AROUND];
 static uint8_t *const lent_bytes = byte_space + AROUND;
@@ -136,7 +136,7 @@ static void ask_edit(char **words) {
     hold_around(n, 0);
 }
 
-/* No degrees are told as 0.0, but their place stays. */
+/* Where there are no degrees, 0.0 is written, but their place stays. */
 static void ask_temperature(char **words) {
     const float before = -1234.5f;
     float degrees[3] = {before, before, before};
@@ -221,7 +221,7 @@ static void ask(const char *call) {
     stop("it is no call");
 }
 
-/* A control has a wrong answer, which must be told from the right one. */
+/* A control has a wrong answer, which must not agree with the right one. */
 static bool agrees(char *line) {
     bool control = line[0] == '!';
     char *call = line + (control ? strspn(line, "! ") : 0), *bar = strstr(call, " | ");

@@ -9,7 +9,7 @@ pub const PICKED: &str = include_str!("picked.txt");
 /// Checksum, scrambler, fields and satellites: the documents' examples, values known from elsewhere, and drawn ones.
 pub const LEAVES: &str = include_str!("leaves.txt");
 
-/// Answers each line; what stands behind a bar already is not looked at.
+/// Answers each line; an answer that is there already, behind a bar, is not looked at.
 pub fn answer(maker: &mut Maker, text: &str) -> Result<(), String> {
     for (number, line) in (1..).zip(text.lines()) {
         if let Some(name) = line.strip_prefix('#') {

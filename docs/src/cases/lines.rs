@@ -12,7 +12,7 @@ fn room_mark(place: usize) -> u32 {
     4_000_000_000 + place as u32
 }
 
-/// Neither training nor sync nor a type byte where they stand, so that each of these shows.
+/// Neither training nor sync nor a type byte has this value at its place, so that each of these shows.
 fn output_mark(place: usize) -> u8 {
     208 + (place % 47) as u8
 }

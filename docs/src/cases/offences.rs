@@ -2,7 +2,7 @@
 //!
 //! Pairs that cannot be had, by 01, "What is refused, and in which order":
 //! - 2 with 4, 5 or 9: a frame with offence 2 ends before the type byte, so it has no address, type or checksum.
-//! - 11 with 13 (editing): a field that is none has no width. Such calls with great values stand under 13 itself.
+//! - 11 with 13 (editing): a field that is none has no width. Such calls with great values are among those of 13 itself.
 //! - 6 with a satellite other than HADES-SA; 2 with 6 needs just the 19 bytes that end with the size byte.
 //!
 //! All pairs of writing can be had. 2 never comes without 7, as every frame is longer than its head. With offence 1, 2

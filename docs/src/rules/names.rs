@@ -60,7 +60,7 @@ const DOCUMENT_001: Document = Document {
 /// type 8, which 01 gives to none of the four, mends those of the others.
 ///
 /// Type 7 prints "data" and puts the size beside it, "char 0 - char 92"; the
-/// size stands in brackets here, as type 6 has it.
+/// size is in brackets here, as type 6 has it.
 const DOCUMENT_002: Document = Document {
     number: "002",
     packets: &[
@@ -251,7 +251,7 @@ fn same_place(kind: u32, place: usize) -> &'static str {
 
 /// The names that one printed name stands for: itself up to the first blank,
 /// bracket or colon, in lower case, and for a list one name for each member,
-/// the last index fastest. The list's sizes stand in brackets.
+/// the last index fastest. The list's sizes are in brackets.
 fn spell_out(print: &str) -> Vec<String> {
     let word = print
         .split(|sign| " [:".contains(sign))
