@@ -20,6 +20,10 @@
 extern "C" {
 #endif
 
+/* The version of this header: CHANGELOG.md says what each one adds and changes. */
+#define TOLIMBAR_VERSION_MAJOR 1u
+#define TOLIMBAR_VERSION_MINOR 1u
+
 /* The satellites. */
 #define TOLIMBAR_HADES_D 0u
 #define TOLIMBAR_HADES_ICM 1u
@@ -85,7 +89,8 @@ typedef struct {
 
 /* Reads a frame that this satellite sent. Tests 1 to 9 in that order, 6 for HADES-SA only. The values of its fields, in the order of
  * the satellite's table, fill as many places of the room; later places stay. The ten temperatures of a frame of type 2 are its last
- * ten values. (docs/FORMAT.md has the tables; `./tolimbar fields SATELLITE TYPE` lists each field's number, name, first bit and width.) */
+ * ten values. (docs/FORMAT.md has the tables. `./tolimbar layouts` lists the types that each satellite carries, and
+ * `./tolimbar fields SATELLITE TYPE` each field's number, name, first bit and width.) */
 tolimbar_reading tolimbar_read(uint32_t satellite, const uint8_t *frame, size_t frame_len, uint32_t *room, size_t room_len);
 
 /* Writes the frame of this satellite's type that carries these values. Tests 1, 5, 10, 11, 12. The frame fills as many bytes of the

@@ -177,7 +177,7 @@ fn cause(refusal: u32, satellite: Satellite, frame: &[u8]) {
         ),
         4 => owners(satellite, frame),
         5 => printing::text(
-            b"the satellite's table has no row for this type, so nothing says where its fields lie",
+            b"Tolimbar's table has no row for this type of this satellite, so it cannot say where the fields lie",
         ),
         6 => printing::text(
             b"the size byte counts the bytes behind it, and this type's row has another number",
@@ -201,7 +201,9 @@ fn owners(satellite: Satellite, frame: &[u8]) {
 fn length(satellite: Satellite, frame: &[u8]) {
     let ty = fronts::type_sent(satellite, frame);
     if frame.len() < layouts::of(satellite, ty).frame {
-        return printing::text(b"bytes are missing at the end of the frame");
+        return printing::text(
+            b"the frame is shorter than this type's: its end is missing, or it is another satellite's",
+        );
     }
-    printing::text(b"bytes that are not the frame's stand behind it");
+    printing::text(b"bytes that are not the frame's follow it");
 }

@@ -4,3 +4,4 @@ pub mod DemandOne
 pub mod DemandTwo
 pub mod DemandThree
 pub mod FromC
+pub mod PowerFrames

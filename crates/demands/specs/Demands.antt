@@ -1,7 +1,7 @@
 -- The desk's three demands, in quotes, as statements about the calls `reading::read`, `writing::write` and `editing::edit` themselves, by
 -- the text of their contracts, and of the calls from C. DemandOne.antt, DemandTwo.antt, DemandThree.antt and FromC.antt of proofs/ prove them.
 --
--- The calls name a satellite by its number n, and `printed n` is what 01 prints of it. Paper.antt of the crate `frames` has the parts of a
+-- The calls name a satellite by its number n, and `printed n` is what the papers print of it. Paper.antt of the crate `frames` has the parts of a
 -- frame and what each test says; `Answered` and `AllSaid` are in Tests.antt of `refusals`, `bits`, `bitsOf` and `field` in Bits.antt of
 -- `bits`, `widthAt` and `startAt` in Layouts.antt of `layouts`, `from` in Scrambler.antt of `scrambler`.
 --
@@ -30,7 +30,7 @@ use Rattle.tolimbar.proofs.tolimbar_read.Reads as tolimbar-read
 use Rattle.tolimbar.proofs.tolimbar_write.Reads as tolimbar-write
 use Rattle.tolimbar.proofs.tolimbar_edit.Reads as tolimbar-edit
 
--- ---- what 01 prints, by the satellite's number
+-- ---- what 01 and 02 print, by the satellite's number
 
 -- its constants, as Paper.antt of `satellites` has them; "x^17 + x^12 + 1", started with "a 1, then sixteen 0s"; and its lines of the table,
 -- which proofs/Paper.antt of `layouts` compares with a second typing

@@ -1,4 +1,4 @@
--- The field tables (01, "The field tables"; FORMAT 6), and what a program is told of a type that a satellite carries.
+-- The field tables (01, "The field tables", and 02, "One"; FORMAT 6), and what a program is told of a type that a satellite carries.
 use Prim.Native.Nat.{ℕ, zero, suc, _+_, _-_}
 use mathlib.Core.Bool.{Bool, true, false, _||_, cond}
 use mathlib.Core.List.{List, [], _∷_, _++_, map}
@@ -39,7 +39,7 @@ pub record Entry : Type 0 where
   pub widths : List ℕ
   pub size : ℕ
 
--- a line of 01's table
+-- a line of the table
 pub record Line : Type 0 where
   pub sentBy : List ℕ
   pub entry : Entry
@@ -56,8 +56,10 @@ clocked frameType widths sentBy size =
 
 unfoldable pub table : List Line
 table =
+    -- type 1, which 02 adds "for satellites 1 to 6": clock 32, 4 of 8, 16, 3 of 12, 16, 5 of 12, 4 of 8. The other lines are 01's
+    clocked 1 (4 of 8 ++ 16 ∷ 3 of 12 ++ 16 ∷ 5 of 12 ++ 4 of 8) (1 to 6) 31
     -- ten temperatures
-    line 2 ten (only 0) 13
+    ∷ line 2 ten (only 0) 13
     -- clock 32, ten temperatures
     ∷ clocked 2 ten (1 to 6) 17
     -- ten minima, ten maxima, ten means

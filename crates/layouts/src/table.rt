@@ -1,4 +1,4 @@
-// The field tables (01, "The field tables"; FORMAT 6): a table of satellites, each with its rows.
+// The field tables (01, "The field tables", and 02, "One"; FORMAT 6): a table of satellites, each with its rows.
 //
 // A row is its type, the bytes from type byte to checksum, and then its fields in pairs, so many of so many bits
 // ("48 of 16"), with zeros behind them. A first pair of 1 of 32 is the satellite's clock ("clock 32"): a row that starts with another
@@ -19,6 +19,9 @@ pub(crate) type Row = [u8; NUMBERS];
 
 // As many as a satellite may have.
 const ROWS: usize = 6;
+
+// clock 32, 4 of 8, 16, 3 of 12, 16, 5 of 12, 4 of 8
+const TYPE_1: Row = [1, 31, 1, 32, 4, 8, 1, 16, 3, 12, 1, 16, 5, 12, 4, 8];
 
 // ten temperatures
 const TYPE_2_D: Row = [2, 13, 10, 8, 0, 0, 0, 0, 0, 0, 0, 0, 0, 0, 0, 0];
@@ -57,12 +60,12 @@ const NO_ROW: Row = [0; NUMBERS];
 
 const TABLE: [[Row; ROWS]; 7] = [
     [TYPE_2_D, TYPE_5_D, TYPE_8_D, NO_ROW, NO_ROW, NO_ROW],
-    [TYPE_2, TYPE_5, TYPE_6, TYPE_7, TYPE_12, NO_ROW],
-    [TYPE_2, TYPE_5, TYPE_6, TYPE_11, TYPE_12, NO_ROW],
-    [TYPE_2, TYPE_5, TYPE_6, TYPE_10, TYPE_12, NO_ROW],
-    [TYPE_2, TYPE_5, TYPE_6, TYPE_12, NO_ROW, NO_ROW],
-    [TYPE_2, TYPE_5, TYPE_6, TYPE_10, TYPE_12, NO_ROW],
-    [TYPE_2, TYPE_5, TYPE_8_SA, TYPE_12, NO_ROW, NO_ROW],
+    [TYPE_1, TYPE_2, TYPE_5, TYPE_6, TYPE_7, TYPE_12],
+    [TYPE_1, TYPE_2, TYPE_5, TYPE_6, TYPE_11, TYPE_12],
+    [TYPE_1, TYPE_2, TYPE_5, TYPE_6, TYPE_10, TYPE_12],
+    [TYPE_1, TYPE_2, TYPE_5, TYPE_6, TYPE_12, NO_ROW],
+    [TYPE_1, TYPE_2, TYPE_5, TYPE_6, TYPE_10, TYPE_12],
+    [TYPE_1, TYPE_2, TYPE_5, TYPE_8_SA, TYPE_12, NO_ROW],
 ];
 
 // The row of a type that a satellite carries; an empty one where it does not carry the type.

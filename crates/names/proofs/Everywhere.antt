@@ -27,6 +27,10 @@ agree true false t = absurd t
 agree false true t = absurd t
 agree false false t = refl
 
+pub true-is : (b : Bool) → T b → b ≡ true
+true-is true t = refl
+true-is false t = absurd t
+
 -- the satellites are in the order of their numbers, and so is what is said of each
 pub by-number : {A : Type 0} (f : Satellite → A) (d : A) (s : Satellite) → getD (map f seven) (numberOf s) d ≡ f s
 by-number {A} f d s = List·getD-map of (map Is seven) (numberOf s) Unknown ∙ ap of (known-number s)

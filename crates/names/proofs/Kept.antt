@@ -20,7 +20,7 @@ use Rattle.pages.proofs.Laws.{one-behind}
 use Rattle.names.specs.Names.{partsOf}
 use Rattle.names.specs.Lines.{ahead, isOf, lineOf, rowIn}
 use Rattle.names.specs.Fields.{Line, table, namesIn, namesOf, lined, rowLength, rowOf}
-use Rattle.names.proofs.Everywhere.{agrees, agree, each-satellite}
+use Rattle.names.proofs.Everywhere.{agrees, agree, true-is, each-satellite}
 
 -- a line of the text and one of the table agree on a satellite
 abbrev agreesOn : List ℕ → Line → Satellite → Bool
@@ -45,10 +45,6 @@ eqb-add k a b = go (eqb a b) refl
     go : (t : Bool) → eqb a b ≡ t → eqb (k + a) (k + b) ≡ t
     go true e = eq-eqb (k + a) (k + b) (ap (λ (n : ℕ). k + n) (eqb-true a b e))
     go false e = ne-eqb (k + a) (k + b) (λ h. eqb-false a b e (omega arith))
-
-true-is : (b : Bool) → T b → b ≡ true
-true-is true t = refl
-true-is false t = absurd t
 
 -- what the test says of two lines
 module _ (w : List ℕ) (l : Line) (t : T (sameLine w l)) where

@@ -4,6 +4,7 @@ pub mod Contracts
 pub mod Counted
 pub mod Determined
 pub mod Distinct
+pub mod Documents
 pub mod Everywhere
 pub mod Kept
 pub mod Parts

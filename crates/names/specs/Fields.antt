@@ -39,7 +39,8 @@ sensors = words "tpa tpb tpc tpd tpe teps ttx ttx2 trx tcpu"
 -- the names as the documents spell them: 001 describes satellite 0, 002 describes 1 to 4, 004 describes 5, and 000 describes 6
 unfoldable pub table : List Line
 table =
-    line 2 (only 0) sensors
+    line 1 (1 to 6) (words "sclock spa spb spc spd spi vbus1 vbat1 vcpu vbus2 vbus3 vbat2 ibat icpu ipl" ++ signals)
+    ∷ line 2 (only 0) sensors
     ∷ line 2 (1 to 6) (text "sclock" ∷ sensors)
     ∷ line 5 (only 0) (prefixed "min" sensors ++ (prefixed "max" sensors ++ prefixed "med" sensors))
     ∷ line 5 (1 to 4) (text "sclock" ∷ prefixed "min" sensors ++ prefixed "max" (words "tpa tpb tpc tpd tpe tpeps ttx ttx2 trx tcpu"))
@@ -53,6 +54,9 @@ table =
     ∷ line 7 (only 1) (words "sclock message_number" ++ arrayOf (text "data") 93)
     ∷ []
   where
+    signals : List (List ℕ)
+    signals = words "peaksignal modasignal lastcmdsignal lastcmdnoise"
+
     behind : List (List ℕ)
     behind = words "tle.bstar tle.xincl tle.xnodeo tle.eo tle.omegao tle.xmo tle.xno lat lon alt cnt"
 

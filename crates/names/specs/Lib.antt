@@ -1,3 +1,4 @@
+pub mod Documents
 pub mod Fields
 pub mod Lines
 pub mod Names

@@ -54,7 +54,8 @@ pub fn row(satellite: Satellite, ty: u32) -> [u8; ROW]
     ensures { λ r. ⌜ r ≡ rowOf (namesOf satellite ty) ⌝ }
 {
     lines::row_in(
-        b"02 0______ tpa tpb tpc tpd tpe teps ttx ttx2 trx tcpu\n\
+        b"01 _123456 sclock spa spb spc spd spi vbus1 vbat1 vcpu vbus2 vbus3 vbat2 ibat icpu ipl peaksignal modasignal lastcmdsignal lastcmdnoise\n\
+            02 0______ tpa tpb tpc tpd tpe teps ttx ttx2 trx tcpu\n\
             02 _123456 sclock tpa tpb tpc tpd tpe teps ttx ttx2 trx tcpu\n\
             05 0______ mintpa mintpb mintpc mintpd mintpe minteps minttx minttx2 mintrx mintcpu maxtpa maxtpb maxtpc maxtpd maxtpe maxteps maxttx maxttx2 maxtrx maxtcpu medtpa medtpb medtpc medtpd medtpe medteps medttx medttx2 medtrx medtcpu\n\
             05 _1234__ sclock mintpa mintpb mintpc mintpd mintpe minteps minttx minttx2 mintrx mintcpu maxtpa maxtpb maxtpc maxtpd maxtpe maxtpeps maxttx maxttx2 maxtrx maxtcpu\n\

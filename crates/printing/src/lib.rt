@@ -114,6 +114,7 @@ pub fn satellite(satellite: Satellite) {
 // What the documents call a type.
 pub fn type_name(ty: u32) {
     match ty {
+        1 => text(b"Power"),
         2 => text(b"Temperature"),
         5 => text(b"Temp stats"),
         6 => text(b"Sunsensors"),

@@ -1,11 +1,12 @@
 -- A test, as a boolean, and the statement that it is true of.
 -- Assumes nothing.
+use Prim.{⊥}
 use Prim.Native.Nat.{ℕ, _≤_, _<_}
-use mathlib.Core.Path.{_≡_, refl, sym, _∙_}
-use mathlib.Core.Logic.{inl, inr}
+use mathlib.Core.Path.{_≡_, refl, sym, _∙_, subst}
+use mathlib.Core.Logic.{_≢_, inl, inr}
 use mathlib.Core.Bool.{Bool, true, false, false≢true, not, _&&_, _||_, cond}
 use mathlib.Core.List.{List, [], _∷_, _++_}
-use lib.Dec.{T, eqb, ltb, leb, ltb→lt}
+use lib.Dec.{T, eqb, ltb, leb, eqb-refl, T-not}
 use borrow.Author.Tests.{eqb-true, eq-eqb, ltb-true, lt-ltb, leb-true, le-leb}
 use mir.Facts.{and-yes}
 use native.Mathlib.Omega.{arith}
@@ -67,16 +68,43 @@ pub all-answered : (said : List Said) → AllSaid said → Answered 0 said
 all-answered [] all = refl
 all-answered (says k statement ∷ said) all = inl (all .0, all-answered said (all .1))
 
--- and where it is 0, all hold: every test has another number
-abbrev othersThanZero : List Said → Bool
-othersThanZero [] = true
-othersThanZero (says k statement ∷ said) = ltb 0 k && othersThanZero said
+-- no test has the number n
+abbrev pub othersThan : ℕ → List Said → Bool
+othersThan n [] = true
+othersThan n (says k statement ∷ said) = not (eqb k n) && othersThan n said
 
-pub all-said : (said : List Said) → T (othersThanZero said) → Answered 0 said → AllSaid said
+other : (n k : ℕ) (more : Bool) → T (not (eqb k n) && more) → n ≢ k
+other n k more lacks e = T-not (eqb k n) (and-yes (not (eqb k n)) more lacks .0) (subst (λ m. T (eqb k m)) (sym e) (eqb-refl k))
+
+-- and where it is 0, all hold: every test has another number
+pub all-said : (said : List Said) → T (othersThan 0 said) → Answered 0 said → AllSaid said
 all-said [] some a = tt {0}
-all-said (says k statement ∷ said) some (inl a) = (a .0, all-said said (and-yes (ltb 0 k) (othersThanZero said) some .1) (a .1))
-all-said (says k statement ∷ said) some (inr a) =
-    absurd (omega (arith, a .1, ltb→lt 0 k (and-yes (ltb 0 k) (othersThanZero said) some .0)))
+all-said (says k statement ∷ said) some (inl a) = (a .0, all-said said (and-yes (not (eqb k 0)) (othersThan 0 said) some .1) (a .1))
+all-said (says k statement ∷ said) some (inr a) = absurd (other 0 k (othersThan 0 said) some (a .1))
+
+-- a number that no test has, other than 0, is not answered
+not-answered : (n : ℕ) (said : List Said) → 0 < n → T (othersThan n said) → Answered n said → ⊥
+not-answered n [] more lacks a = omega (arith, more, a)
+not-answered n (says k statement ∷ said) more lacks (inl a) =
+    not-answered n said more (and-yes (not (eqb k n)) (othersThan n said) lacks .1) (a .1)
+not-answered n (says k statement ∷ said) more lacks (inr a) = other n k (othersThan n said) lacks (a .1)
+
+-- a number that one test has is answered only where the tests ahead of that one hold, and it fails
+pub answered-fails : (n : ℕ) (ahead : List Said) (statement : Type 0) (behind : List Said)
+    → 0 < n → T (othersThan n ahead) → T (othersThan n behind) → Answered n (ahead ++ (says n statement ∷ behind))
+    → AllSaid ahead × (statement → ⊥)
+answered-fails n [] statement behind more lacks none (inl a) = absurd (not-answered n behind more none (a .1))
+answered-fails n [] statement behind more lacks none (inr a) = (tt {0}, a .0)
+answered-fails n (says k first ∷ ahead) statement behind more lacks none (inl a) =
+    let rest = answered-fails n ahead statement behind more (and-yes (not (eqb k n)) (othersThan n ahead) lacks .1) none (a .1) in
+    ((a .0, rest .0), rest .1)
+answered-fails n (says k first ∷ ahead) statement behind more lacks none (inr a) = absurd (other n k (othersThan n ahead) lacks (a .1))
+
+-- and it is answered there
+pub fails-answered : (n : ℕ) (ahead : List Said) (statement : Type 0) (behind : List Said)
+    → AllSaid ahead → (statement → ⊥) → Answered n (ahead ++ (says n statement ∷ behind))
+fails-answered n [] statement behind all fails = inr (fails, refl)
+fails-answered n (says k first ∷ ahead) statement behind all fails = inl (all .0, fails-answered n ahead statement behind (all .1) fails)
 
 -- all of two lists hold where all of each do
 pub part-said : (xs ys : List Said) → AllSaid (xs ++ ys) → AllSaid xs × AllSaid ys

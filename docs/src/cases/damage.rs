@@ -174,6 +174,6 @@ pub fn mislabelled(maker: &mut Maker) {
     types_and_addresses(maker);
     maker.heading("satellites: each row's frame offered as each of the seven");
     other_satellites(maker);
-    maker.heading("sizes: all 256 size bytes for type 2 of HADES-SA, some for each other type");
+    maker.heading("sizes: all 256 size bytes for type 1 of HADES-SA, some for each other type");
     all_sizes(maker);
 }

@@ -1,7 +1,9 @@
-//! Calls of the leaves, drawn: most of them a field or a register that there is, and some that is none.
+//! Calls of the leaves: a field of every width at every start bit of a byte, and drawn ones, most of them a field or a register that
+//! there is, and some that is none.
 
 use crate::drawing::Maker;
 use crate::rules::frames::{FAR, NEAR};
+use crate::rules::leaves::{greatest, replace};
 
 /// Few bytes or some, at times all of one sort, so that a bit of the other sort shows.
 fn part(maker: &mut Maker) -> Vec<u8> {
@@ -46,6 +48,29 @@ pub fn any_leaf(maker: &mut Maker) {
         _ => {
             let value = maker.draw() as u32;
             maker.replace(start, width, value, &bytes);
+        }
+    }
+}
+
+/// Six bytes, and the field begins in the second of them: so even one of 32 bits has a bit ahead of it and one behind it.
+fn field_at(maker: &mut Maker, start: usize, width: usize) {
+    let (from, wide) = (start as u32, width as u32);
+    let drawn: Vec<u8> = (0..6).map(|_| maker.byte()).collect();
+    maker.field(from, wide, &drawn);
+    for (around, value) in [(0xFF, 0), (0x00, greatest(width))] {
+        let mut bytes = [around; 6];
+        maker.replace(from, wide, value, &bytes);
+        replace(&mut bytes, start, width, value);
+        maker.field(from, wide, &bytes);
+    }
+}
+
+pub fn every_field(maker: &mut Maker) {
+    maker.heading("leaves: a field of every width, 1 to 32, at every start bit of a byte");
+    maker.remark("read among drawn bits; made 0 among ones, and the greatest among zeros, and read back");
+    for start in 8..16 {
+        for width in 1..=32 {
+            field_at(maker, start, width);
         }
     }
 }

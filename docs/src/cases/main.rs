@@ -19,7 +19,7 @@ use std::io::Read;
 use std::process::ExitCode;
 
 const DEFAULT_SEED: u64 = 1;
-const DEFAULT_COUNT: u64 = 11_000;
+const DEFAULT_COUNT: u64 = 13_000;
 
 const USAGE: &str = "usage: cases [SEED [COUNT]]
        cases answer < CALLS
@@ -50,10 +50,12 @@ fn print_all(seed: u64, count: u64) -> Result<(), String> {
     let mut maker = Maker::new(seed);
     asked::answer(&mut maker, asked::PICKED)?;
     asked::answer(&mut maker, asked::LEAVES)?;
+    leaves::every_field(&mut maker);
     leaves::drawn(&mut maker);
     rows::accepted_rows(&mut maker);
     rows::both_ends(&mut maker);
     rows::edits(&mut maker);
+    rows::shared_bytes(&mut maker);
     offences::refusals(&mut maker);
     damage::damaged(&mut maker);
     damage::lengths(&mut maker);

@@ -1,4 +1,4 @@
-//! Each row of 01's table written, read and edited, with values at both ends of each width. What all senders of a row would do alike
+//! Each row of the table written, read and edited, with values at both ends of each width. What all senders of a row would do alike
 //! is done by them in turn.
 
 use crate::drawing::{all_greatest, all_rows, is_long, values_of, written, Maker};
@@ -169,6 +169,39 @@ pub fn edits(maker: &mut Maker) {
                 let value = maker.between(0, 1) as u32;
                 maker.edit(satellite, none, value, &frame);
             }
+        }
+    }
+}
+
+/// Both ends of a field among others that are drawn: written, read, and edited to the other end, so that the second edit gives back the
+/// first frame; and one too large.
+fn end_to_end(maker: &mut Maker, satellite: u32, row: &Row, field: usize, width: usize) {
+    let mut values = maker.wide_values(row);
+    let (first, last) = (0, greatest(width));
+    for (value, other) in [(first, last), (last, first)] {
+        values[field] = value;
+        let frame = written(satellite, row, &values);
+        maker.write(satellite, row.number, frame.len(), &values);
+        maker.read(satellite, values.len(), &frame);
+        maker.edit(satellite, field as u32, other, &frame);
+    }
+    let frame = written(satellite, row, &values);
+    maker.edit(satellite, field as u32, last + 1, &frame);
+    values[field] = last + 1;
+    maker.write(satellite, row.number, frame.len(), &values);
+}
+
+/// No turns here: every satellite has such a field at both ends.
+pub fn shared_bytes(maker: &mut Maker) {
+    maker.heading("shared bytes: each field that begins or ends in the middle of a byte, of every satellite");
+    maker.remark("0 and the greatest written and read, edited from one to the other and back, and one too large");
+    for (satellite, _, row) in all_rows() {
+        let mut start = 0;
+        for (field, width) in row.widths().enumerate() {
+            if start % 8 != 0 || (start + width) % 8 != 0 {
+                end_to_end(maker, satellite, row, field, width);
+            }
+            start += width;
         }
     }
 }

@@ -96,7 +96,7 @@ fn example(line: &str, satellite: usize, number: u32) -> Result<Example, String>
     Ok(Example { satellite, number, frame })
 }
 
-/// One for each line of 01's printed table, in its order.
+/// One for each line of the printed table, in its order.
 fn examples(values: &str) -> Result<Vec<Example>, String> {
     let mut lines = values.lines().filter(|line| !line.is_empty() && !line.starts_with('#'));
     let mut made = vec![];
@@ -111,18 +111,22 @@ fn examples(values: &str) -> Result<Vec<Example>, String> {
 /// The refusal, the satellite that the frame is offered as, whose frame of which type it is, and what is done to it.
 type Damage = (u32, usize, usize, u32, fn(&Satellite, &mut Vec<u8>));
 
-const DAMAGES: [Damage; 8] = [
+const DAMAGES: [Damage; 9] = [
     (2, 0, 0, 2, |sender, frame| frame.truncate(sender.type_place())), // cut ahead of the type byte
     (3, 2, 2, 11, |sender, frame| frame[sender.training] ^= 1), // a bit of sync
     (4, 4, 3, 2, |_, _| ()), // a good one, offered as another's
     (5, 3, 3, 10, |sender, frame| relabel(sender, frame, 11)), // the type that is MARIA-G's alone
+    (5, 0, 1, 1, |sender, frame| {
+        frame.drain(..sender.training - TABLE[0].training);
+        relabel(&TABLE[0], frame, 1)
+    }), // the type that all the others send, with HADES-D's training and address
     (6, 6, 6, 2, |sender, frame| frame[sender.type_place() - 1] -= 1), // the size byte
     (7, 6, 6, 2, |_, frame| frame.truncate(frame.len() - 1)), // a byte too few
     (7, 1, 1, 7, |_, frame| frame.push(0)), // a byte too many
     (9, 5, 5, 2, |sender, frame| frame[sender.type_place() + 6] ^= 0x10), // a bit of the body
 ];
 
-/// Another type on the same body, under a right checksum.
+/// The sender's address and another type on the same body, under a right checksum.
 fn relabel(sender: &Satellite, frame: &mut [u8], number: u32) {
     let part = &mut frame[sender.type_place()..];
     frames::unseal(part);

@@ -1,10 +1,11 @@
 //! A second program for the layouts: which fields a frame has, where they lie
 //! and what they are called.
 //!
-//! Widths and names come from different papers and meet only here: the widths
-//! from 01, the names from the satellite teams' documents. What can be worked
-//! out is worked out: places and frame lengths are sums of widths. Where two
-//! papers disagree about a number the program stops with a message.
+//! Widths and names come from different papers and meet only here: the names
+//! from the satellite teams' documents, the widths from 01, and those of type 1,
+//! for which 01 has no line, from the documents too. What can be worked out is
+//! worked out: places and frame lengths are sums of widths. Where two papers
+//! disagree about a number the program stops with a message.
 //!
 //! ```text
 //! layouts table     SAT TYPE FIELDS BYTES, a heading and one line a frame
@@ -19,7 +20,7 @@
 #[path = "../rules/mod.rs"]
 mod rules;
 
-use rules::names::names;
+use rules::names::{names, SATELLITES};
 use rules::table::{Row, Satellite, TABLE};
 use std::env;
 use std::ffi::OsString;
@@ -43,27 +44,54 @@ fn main() -> io::Result<ExitCode> {
 /// The type byte, and the two bytes of the checksum.
 const AROUND_BODY: usize = 1 + 2;
 
-/// The length of a frame by the widths of its fields, which must be that of
-/// 01's last column.
-fn frame_bytes(satellite: &Satellite, row: &Row) -> usize {
-    let bits: usize = row.widths().sum();
+/// The bits from type byte to checksum, by the widths of the fields.
+fn bits(widths: impl Iterator<Item = usize>) -> usize {
+    8 * AROUND_BODY + widths.sum::<usize>()
+}
+
+/// The widths must fill the bytes that 01, or 02, gives a row.
+fn compare_bytes(row: &Row) {
     assert_eq!(
-        8 * AROUND_BODY + bits,
+        bits(row.widths()),
         8 * row.bytes,
-        "type {}: the widths and the last column of 01 differ",
+        "type {}: the widths and the bytes from type byte to checksum differ",
         row.number
     );
-    satellite.type_place() + AROUND_BODY + bits / 8
+}
+
+/// Where the widths are the documents', they must have the sum that the
+/// satellite's own document prints, 248 bits for type 1 (02, "One"), and be the
+/// row's.
+fn compare_document(satellite: usize, row: &Row) {
+    let document = SATELLITES[satellite].1;
+    if let Some((widths, sum)) = document.widths(row.number) {
+        let place = format!("document {}, type {}", document.number, row.number);
+        let added = bits(widths.iter().copied());
+        assert_eq!(added, sum, "{place}: the widths have not the printed sum");
+        let table: Vec<usize> = row.widths().collect();
+        assert_eq!(widths, table, "{place}: the widths are not the table's");
+    }
+}
+
+/// Every satellite's number with each of its rows, about which the papers agree.
+fn rows() -> impl Iterator<Item = (usize, &'static Satellite, &'static Row)> {
+    let satellites = TABLE.iter().enumerate();
+    let all = satellites.flat_map(|(number, satellite)| {
+        let rows = satellite.rows.iter();
+        rows.map(move |row| (number, satellite, row))
+    });
+    all.inspect(|(number, _, row)| {
+        compare_bytes(row);
+        compare_document(*number, row);
+    })
 }
 
 /// The printed table of 01: satellite, type, field count, frame length.
 fn table() -> String {
     let mut text = String::from("sat type fields bytes\n");
-    for (number, satellite) in TABLE.iter().enumerate() {
-        for row in satellite.rows {
-            let bytes = frame_bytes(satellite, row);
-            text += &format!("{} {} {} {}\n", number, row.number, row.fields(), bytes);
-        }
+    for (number, satellite, row) in rows() {
+        let bytes = satellite.type_place() + bits(row.widths()) / 8;
+        text += &format!("{} {} {} {}\n", number, row.number, row.fields(), bytes);
     }
     text
 }
@@ -71,16 +99,14 @@ fn table() -> String {
 /// Every field of every frame: number, name, first bit and width.
 fn fields() -> String {
     let mut text = String::new();
-    for (number, satellite) in TABLE.iter().enumerate() {
-        for row in satellite.rows {
-            text += &format!("fields {} {}\nfield name start width\n", number, row.number);
-            let mut bit = 0;
-            for (field, (width, name)) in row.widths().zip(names(number, row)).enumerate() {
-                text += &format!("{} {} {} {}\n", field, name, bit, width);
-                bit += width;
-            }
-            text.push('\n');
+    for (number, _, row) in rows() {
+        text += &format!("fields {} {}\nfield name start width\n", number, row.number);
+        let mut bit = 0;
+        for (field, (width, name)) in row.widths().zip(names(number, row)).enumerate() {
+            text += &format!("{} {} {} {}\n", field, name, bit, width);
+            bit += width;
         }
+        text.push('\n');
     }
     text
 }

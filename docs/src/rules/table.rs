@@ -1,4 +1,4 @@
-//! The satellites and the rows of their types: 01, "From antenna order to bytes" and "The field tables".
+//! The satellites and the rows of their types: 01, "From antenna order to bytes" and "The field tables", and type 1 of 02, "One".
 
 use super::leaves::fits;
 use super::temperatures::SENSORS;
@@ -28,9 +28,11 @@ const fn satellite(address: u8, training: usize, has_size: bool, rows: &'static 
     Satellite { address, training, has_size, rows }
 }
 
-// 01, "The field tables", line by line; `_OF_0` and `_OF_6` where one satellite has a layout of its own.
+// 01, "The field tables", line by line; `_OF_0` and `_OF_6` where one satellite has a layout of its own. 01 has no line for type 1: its
+// widths are those of documents 000, 002 and 004 (documents.rs), its bytes those of 02.
 const CLOCK: Run = (1, 32);
 const TEN: Run = (SENSORS, 8);
+const TYPE_1: Row = row(1, &[CLOCK, (4, 8), (1, 16), (3, 12), (1, 16), (5, 12), (4, 8)], 31);
 const TYPE_2_OF_0: Row = row(2, &[TEN], 13);
 const TYPE_2: Row = row(2, &[CLOCK, TEN], 17);
 const TYPE_5_OF_0: Row = row(5, &[TEN, TEN, TEN], 33);
@@ -46,12 +48,12 @@ const TYPE_12: Row = row(12, &[(1, 32), (1, 16), (12, 32), (3, 16), (1, 8)], 64)
 /// Addresses, training lengths and size byte from 01, "From antenna order to bytes".
 pub static TABLE: [Satellite; 7] = [
     satellite(0x8, 8, false, &[TYPE_2_OF_0, TYPE_5_OF_0, TYPE_8_OF_0]), // 0 HADES-D
-    satellite(0x2, 16, false, &[TYPE_2, TYPE_5, TYPE_6, TYPE_7, TYPE_12]), // 1 HADES-ICM
-    satellite(0xB, 16, false, &[TYPE_2, TYPE_5, TYPE_6, TYPE_11, TYPE_12]), // 2 MARIA-G
-    satellite(0xC, 16, false, &[TYPE_2, TYPE_5, TYPE_6, TYPE_10, TYPE_12]), // 3 UNNE-1
-    satellite(0xD, 16, false, &[TYPE_2, TYPE_5, TYPE_6, TYPE_12]), // 4 HADES-R
-    satellite(0xC, 16, false, &[TYPE_2, TYPE_5, TYPE_6, TYPE_10, TYPE_12]), // 5 UNNE-1B
-    satellite(0x3, 16, true, &[TYPE_2, TYPE_5, TYPE_8_OF_6, TYPE_12]), // 6 HADES-SA
+    satellite(0x2, 16, false, &[TYPE_1, TYPE_2, TYPE_5, TYPE_6, TYPE_7, TYPE_12]), // 1 HADES-ICM
+    satellite(0xB, 16, false, &[TYPE_1, TYPE_2, TYPE_5, TYPE_6, TYPE_11, TYPE_12]), // 2 MARIA-G
+    satellite(0xC, 16, false, &[TYPE_1, TYPE_2, TYPE_5, TYPE_6, TYPE_10, TYPE_12]), // 3 UNNE-1
+    satellite(0xD, 16, false, &[TYPE_1, TYPE_2, TYPE_5, TYPE_6, TYPE_12]), // 4 HADES-R
+    satellite(0xC, 16, false, &[TYPE_1, TYPE_2, TYPE_5, TYPE_6, TYPE_10, TYPE_12]), // 5 UNNE-1B
+    satellite(0x3, 16, true, &[TYPE_1, TYPE_2, TYPE_5, TYPE_8_OF_6, TYPE_12]), // 6 HADES-SA
 ];
 
 /// The most bytes any row has from type byte to checksum.

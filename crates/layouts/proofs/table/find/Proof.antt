@@ -7,22 +7,22 @@ use native.Mathlib.Omega.{arith}
 use borrow.Author.Needs.{needs}
 use lib.ListN.{length, drop}
 use Rattle.layouts.specs.Layouts.{found}
-use Rattle.layouts.specs.Rows.{says, unrolled}
+use Rattle.layouts.specs.Rows.{mostRows, says, unrolled}
 use Rattle.layouts.proofs.Found.{here, behind, none}
 use Rattle.layouts.proofs.table.find.Statement.{statement}
 use Rattle.layouts.proofs.table.find.Tie as tie
 
 abbrev Inv-loop : tie.InvT-loop
 Inv-loop ty rows k₀ k =
-    (k ≤ 6) × ((length rows ≡ 6) × (found ty (map says (drop k rows)) ≡ found ty (map says rows)))
+    (k ≤ mostRows) × ((length rows ≡ mostRows) × (found ty (map says (drop k rows)) ≡ found ty (map says rows)))
 
 abbrev μ-loop : tie.MeasureT-loop
-μ-loop ty rows k₀ k = 6 - k
+μ-loop ty rows k₀ k = mostRows - k
 
 loop-holds : tie.Need-loop-holds Inv-loop μ-loop
 loop-holds c =
-    let six : length (c .args .t1) ≡ 6 = search needs in
-    (omega arith, (six, refl))
+    let all : length (c .args .t1) ≡ mostRows = search needs in
+    (omega arith, (all, refl))
 
 mul-row : tie.Need-mul-row Inv-loop μ-loop
 mul-row c = search needs

@@ -7,22 +7,22 @@ use native.Mathlib.Omega.{arith}
 use borrow.Author.Needs.{needs}
 use lib.ListN.{length, getD, drop}
 use Rattle.layouts.specs.Layouts.{_of_}
-use Rattle.layouts.specs.Rows.{unrolled, widthsOf}
+use Rattle.layouts.specs.Rows.{mostNumbers, unrolled, widthsOf}
 use Rattle.layouts.proofs.Unrolled.{widths-more, pair-fits, pair-at, all-unrolled}
 use Rattle.layouts.proofs.widths.unroll.Statement.{statement}
 use Rattle.layouts.proofs.widths.unroll.Tie as tie
 
 abbrev Inv-loop : tie.InvT-loop
 Inv-loop row all₀ k₀ all k =
-    (k ≤ 16)
+    (k ≤ mostNumbers)
     × (k % 2 ≡ 0)
-    × (length row ≡ 16)
+    × (length row ≡ mostNumbers)
     × (xs : List ℕ)
     × (all ≡ widthsOf xs)
     × (xs ++ unrolled (drop k row) ≡ unrolled (drop 2 row))
 
 abbrev μ-loop : tie.MeasureT-loop
-μ-loop row all₀ k₀ all k = 16 - k
+μ-loop row all₀ k₀ all k = mostNumbers - k
 
 loop-holds : tie.Need-loop-holds Inv-loop μ-loop
 loop-holds c = (omega arith, refl, search needs, [], refl, refl)
