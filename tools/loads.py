@@ -74,11 +74,12 @@ def see_frames(offered):
 def see_row(kind, heading, row, told):
     """A row of the table of a type, beside the object that json makes of the same line."""
     stop_unless(len(row) == len(heading), f"{len(row)} columns, {len(heading)} in the heading", row)
-    *cells, refused = row
+    satellite, *cells, refused = row
+    stop_unless(satellite == told["satellite"], row, told)
     if told["refused"] is None and told["type"] == kind:
         by_name = {name: str(value) for name, value in told["fields"].items()}
         by_name.update((name + "_degrees", "" if value is None else str(value)) for name, value in told["degrees"].items())
-        stop_unless(dict(zip(heading, cells)) == by_name and refused == "", row, told)
+        stop_unless(dict(zip(heading[1:], cells)) == by_name and refused == "", row, told)
     else:
         expected = told["refused"] or f"another type ({told['type']}, expected {kind})"
         stop_unless(refused == expected and not any(cells), row, expected)
@@ -94,7 +95,8 @@ def see_tables(offered, told):
         as_objects = [loaded(line) for line in as_objects]
         for kind, answer in zip(types, answers):
             heading, *rows = csv.reader(answer, strict=True)
-            stop_unless(len(set(heading)) == len(heading) and heading[-1] == "refused", heading)
+            ends = heading[0] == "satellite" and heading[-1] == "refused"
+            stop_unless(len(set(heading)) == len(heading) and ends, heading)
             stop_unless(len(rows) == len(as_objects) == len(lines), satellite, kind, "rows, objects and lines differ in number")
             for row, one in zip(rows, as_objects):
                 see_row(kind, heading, row, one)

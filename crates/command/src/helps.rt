@@ -104,8 +104,8 @@ Satellite, type and its name, then a line for each field: its name, its value, a
 fn csv() {
     printing::text(
         b"csv SATELLITE TYPE
-Each line of standard input, up to an empty one, is a frame and becomes a row, below a heading: the fields' values, behind
-a temperature's code its degrees (empty for a sensor error), and last, in the column refused, why there are none.
+Each line of standard input, up to an empty one, is a frame and becomes a row, below a heading: the satellite, the fields' values,
+behind a temperature's code its degrees (empty for a sensor error), and last, in the column refused, why there are none.
 Where the words are refused, no frames are taken: the next line is a command.
   echo AAAAAAAAAAAAAAAABF3528D05C3FBEB06108775B172EC2 | ./tolimbar csv HADES-D 2
 ",
@@ -134,7 +134,8 @@ The frame, in hexadecimal. There is one value for each field, in the fields' ord
 fn edit() {
     printing::text(
         b"edit SATELLITE FRAME FIELD VALUE
-The edited frame, in hexadecimal, then the sent bits of both frames, byte by byte: ^ marks one that flips.
+The edited frame, in hexadecimal, then satellite, type and what the field held and holds, then the sent bits of both frames, byte by
+byte: ^ marks one that flips.
   ./tolimbar edit HADES-D AAAAAAAAAAAAAAAABF3528D05C3FBEB06108775B172EC2 tpb 90
 ",
     );
