@@ -65,7 +65,7 @@ no_field at w s none = by (leb w 32) (leb (at + w) (8 * length s)) refl refl
     by : (narrow inside : Bool) → leb w 32 ≡ narrow → leb (at + w) (8 * length s) ≡ inside → narrow && inside ≡ false
     by true true n h = absurd (none (leb-true w 32 n) (leb-true (at + w) (8 * length s) h))
     by true false n h = refl
-    by false inside n h = refl
+    by false _ n h = refl
 
 -- replacing keeps the length, for every place and width
 pub length-replaced-answer : (at w v : ℕ) (s : List ℕ) → length (replaced_answer at w v s) ≡ length s

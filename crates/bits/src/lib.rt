@@ -3,12 +3,14 @@
 //
 // A field touches at most five bytes. They are gathered into one number, the field is cut out of it or put into it, and
 // they are spread again.
+#![tactic(auto)]
+
 ghost use Rattle.std.specs.Prelude.{◌≡◌, ◌^◌, ◌≤◌, ◌<◌, length};
 ghost use Rattle.bits.specs.Located.{Located, Holds, lead};
 ghost use Rattle.bits.specs.Bits.{bits_of, number, field, replaced, in_bytes, field_answer, replaced_answer};
 
 // The bytes that a field touches, from first up to end, and how many of their bits stand behind the field.
-#[derive(Drop)]
+#[derive(Clone, Copy)]
 struct Place {
     inside: bool,
     first: usize,
@@ -19,7 +21,7 @@ struct Place {
 // The field of `width` bits from bit `at` on. Where no field of at most 32 bits lies there, the answer is 0.
 pub fn read_field(bytes: &[u8], at: usize, width: usize) -> u32
     ensures value { result ≡ field_answer at width bytes.now }
-    ensures bytes_value { bytes.now ≡ bytes.now }
+    ensures bytes_unchanged { bytes.exit.now ≡ bytes.entry.now }
 {
     let p = locate(bytes.len(), at, width);
     let inside = p.inside;

@@ -1,4 +1,6 @@
 // The checksum of a frame: CRC-CCITT-FALSE (01, "Checksum"; FORMAT 4).
+#![tactic(auto)]
+
 ghost use Rattle.std.specs.Prelude.{◌≡◌, false};
 ghost use Rattle.bits.specs.Bits.{bits, number};
 ghost use Rattle.checksum.specs.Checksum.{checksum, stepped, divided};
@@ -10,7 +12,7 @@ const START: u16 = 0xFFFF;
 // The checksum of all the bytes.
 pub fn of(bytes: &[u8]) -> u16
     ensures value { result ≡ checksum bytes.now }
-    ensures bytes_value { bytes.now ≡ bytes.now }
+    ensures bytes_unchanged { bytes.exit.now ≡ bytes.entry.now }
 {
     let mut register = START;
     let mut i = 0;

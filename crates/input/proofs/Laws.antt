@@ -9,7 +9,7 @@ use borrow.Author.Tests.{eqb-true, ltb-true}
 use lib.Dec.{eqb, ltb, leb-suc-suc}
 use lib.ListN.{length, take, drop, length-take, length-drop}
 use lib.Seq.{drop-drop}
-use Rattle.bytes.specs.Bytes.{slice, index_of, index_after}
+use Rattle.pages.specs.Places.{slice, index_of, index_after}
 use Rattle.input.specs.declared.Place.{Place}
 use Rattle.input.specs.Lines.{start_of, end_of, unread, has_end, line_of, behind}
 

@@ -2,13 +2,16 @@
 use Prim.Native.Nat.{ℕ, zero, suc, ◌+◌, ◌-◌, ◌≤◌, ◌<◌, min}
 use native.Mathlib.Nat.{min-eq_left, min-eq_right}
 use native.Mathlib.Omega.{arith}
-use mathlib.Core.Path.{◌≡◌, refl, sym}
+use mathlib.Core.Path.{◌≡◌, refl, sym, ap, ◌∙◌}
 use mathlib.Core.Bool.{Bool, true, false, false≢true}
 use mathlib.Core.List.{List, [], ◌∷◌}
 use lib.ListN.{length, take, drop, length-take, length-drop}
 use lib.Seq.{take-take}
 use borrow.Author.Tests.{lt-ltb, le-ltb}
-use Rattle.bytes.specs.Bytes.{slice, index_of}
+use Rattle.std.proofs.lemmas.List.{drop-take}
+use Rattle.pages.specs.Pages.{put}
+use Rattle.pages.proofs.Laws.{put-length}
+use Rattle.pages.specs.Places.{slice, index_of}
 use Rattle.input.specs.declared.Place.{Place}
 use Rattle.input.specs.declared.Line.{Line}
 use Rattle.input.specs.declared.Found.TheVariants.{Whole, TooLong, End}
@@ -51,6 +54,21 @@ pub record Searched (part : List ℕ) (place : Place) (at end stop : ℕ) : Type
   pub at-is : at ≡ min place.at end
   pub stop_is : stop ≡ at + index_of 10 (slice at end part)
   pub inside : stop ≤ end
+
+-- it searches the bytes from there up to there
+pub searched : (part : List ℕ) (place : Place) (at end i : ℕ) → end ≡ end_of part place → at ≡ min place.at end
+    → i ≡ index_of 10 (take (end - at) (drop at part)) → i ≤ length (take (end - at) (drop at part)) → Searched part place at end (at + i)
+unfolding slice
+searched part place at end i end_is at-is i-is within =
+    let there : at + (end - at) ≡ end = omega arith in
+    let size = length-take (end - at) (drop at part) in
+    let part-is : take (end - at) (drop at part) ≡ slice at end part = sym (rw there at (drop-take {X = ℕ} at (end - at) part)) in
+    record {
+      end_is = end_is;
+      at-is = at-is;
+      stop_is = ap (λ (n : ℕ). at + n) (i-is ∙ ap (index_of 10) part-is);
+      inside = omega (arith, size);
+    }
 
 module _ {part : List ℕ} {place : Place} {at end stop : ℕ} (by : Searched part place at end stop) where
   start_is : at ≡ start_of part place
@@ -97,3 +115,20 @@ module _ {part : List ℕ} {place : Place} {at end stop : ℕ} (by : Searched pa
   left room h =
       let size : stop - at ≡ length (line_of part place) = omega (arith, long, found_at, start_is) in
       (text-is, rw (no-end-there h, size))
+
+  -- the line with that text, and the answer for its room
+  module _ (line page : List ℕ) (page_is : page ≡ put line 0 (take (stop - at) (drop at part))) (r : Line) where
+    kept : length page ≡ length line
+    kept = ap length page_is ∙ put-length line 0 (take (stop - at) (drop at part))
+
+    pub whole-found : stop < end → r ≡ answer (length page) (stop - at) (record { at = stop + 1; end = end; ended = place.ended })
+        → (r ≡ found (length line) part place) × ((page ≡ put line 0 (line_of part place)) × (part ≡ part))
+    whole-found h answered =
+        let told = taken (length line) h in
+        (rw kept at answered ∙ told.1, (page_is ∙ ap (put line 0) told.0, refl))
+
+    pub last-found : end ≤ stop → r ≡ last_of (length page) (stop - at)
+        → (r ≡ found (length line) part place) × ((page ≡ put line 0 (line_of part place)) × (part ≡ part))
+    last-found h answered =
+        let told = left (length line) h in
+        (rw kept at answered ∙ told.1, (page_is ∙ ap (put line 0) told.0, refl))

@@ -3,7 +3,7 @@ use Prim.Native.Nat.{ℕ}
 use mathlib.Core.Path.{◌≡◌, refl}
 use mathlib.Core.Bool.{Bool, true, false}
 use mathlib.Core.List.{List, [], ◌∷◌, map}
-use Rattle.bytes.specs.Bytes.{slice, index_of, index_after}
+use Rattle.pages.specs.Places.{slice, index_of, index_after}
 use Rattle.input.specs.declared.Place.{Place}
 use Rattle.input.specs.declared.Line.{Line}
 use Rattle.input.specs.declared.Found.{Found}

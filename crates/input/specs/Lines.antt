@@ -1,6 +1,6 @@
 -- The next line, where nothing has to be read for it: its end is among the bytes that were read already, or no more come.
 use Rattle.std.specs.Prelude.{ℕ, ◌+◌, min, Bool, true, cond, ◌||◌, List, length, take, ltb}
-use Rattle.bytes.specs.Bytes.{slice, index_of}
+use Rattle.pages.specs.Places.{slice, index_of}
 use Rattle.input.specs.declared.Place.{Place}
 use Rattle.input.specs.declared.Line.{Line}
 use Rattle.input.specs.declared.Found.TheVariants.{Whole, TooLong, End}

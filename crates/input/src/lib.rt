@@ -1,23 +1,25 @@
-// Lines of standard input, as they come: a program gets a line when its end is read, and does not wait for more.
+// Lines of input, as they come: a program gets a line when its end is read, and does not wait for more.
+#![tactic(auto)]
+
 ghost use Rattle.std.specs.Prelude.{◌≡◌, true, ◌≤◌, min, length};
 ghost use Rattle.pages.specs.Pages.{put as put·on};
 ghost use Rattle.input.specs.Lines.{ready, line_of, answer, last_of, found};
 
-use libc::STDIN_FILENO;
+use std::io::Read;
 
 // Nothing says that input ends: so many reads are made for a line at the most.
 const MOST_READS: u64 = 0xFFFF_FFFF_FFFF;
 
 // Which bytes of a part were read and are not taken yet, those from `at` up to `end`; and whether no more come, so that none are asked for
 // again.
-#[derive(Drop)]
+#[derive(Clone, Copy)]
 pub struct Place {
     pub at: usize,
     pub end: usize,
     pub ended: bool,
 }
 
-#[derive(Drop)]
+#[derive(Clone, Copy)]
 pub enum Found {
     Whole,
     TooLong,
@@ -25,7 +27,7 @@ pub enum Found {
 }
 
 // What was found, how many letters of the line are kept, and where the next line begins.
-#[derive(Drop)]
+#[derive(Clone, Copy)]
 pub struct Line {
     pub found: Found,
     pub letters: usize,
@@ -35,7 +37,7 @@ pub struct Line {
 // The next line, without its end, goes to the start of `line`; of one that is too long, the front that fits. The last line may have no
 // end. `part` keeps what was read behind the line for the next call. Nothing is read where the line's end is there already, or no more
 // come.
-pub fn next(part: &mut [u8], line: &mut [u8], place: Place) -> Line
+pub fn next<R: Read>(from: &mut R, part: &mut [u8], line: &mut [u8], place: Place) -> Line
     ensures letters_in_bounds { result.letters ≤ length line.new }
     ensures line_len_unchanged { length line.new ≡ length line.old }
     ensures part_len_unchanged { length part.new ≡ length part.old }
@@ -46,7 +48,7 @@ pub fn next(part: &mut [u8], line: &mut [u8], place: Place) -> Line
 {
     let end = lesser(place.end, part.len());
     let at = lesser(place.at, end);
-    let stop = bytes::scan::find(part, at, end, b'\n');
+    let stop = at + pages::find(&part[at..end], b'\n');
     pages::text(line, 0, &part[at..stop]);
     if stop < end {
         return whole(
@@ -62,7 +64,7 @@ pub fn next(part: &mut [u8], line: &mut [u8], place: Place) -> Line
     if place.ended {
         return last(line, stop - at);
     }
-    more(part, line, stop - at)
+    more(from, part, line, stop - at)
 }
 
 fn lesser(a: usize, b: usize) -> usize
@@ -75,7 +77,7 @@ fn lesser(a: usize, b: usize) -> usize
 }
 
 // Reads on, up to a line's end, behind so many letters of the line.
-fn more(part: &mut [u8], line: &mut [u8], letters: usize) -> Line
+fn more<R: Read>(from: &mut R, part: &mut [u8], line: &mut [u8], letters: usize) -> Line
     ensures letters_in_bounds { result.letters ≤ length line.new }
     ensures line_len_unchanged { length line.new ≡ length line.old }
     ensures part_len_unchanged { length part.new ≡ length part.old }
@@ -83,11 +85,11 @@ fn more(part: &mut [u8], line: &mut [u8], letters: usize) -> Line
     let mut letters = letters;
     let mut reads = 0;
     while reads < MOST_READS {
-        let end = read(part);
+        let end = read(from, part);
         if end == 0 {
             return last(line, letters);
         }
-        let stop = bytes::scan::find(part, 0, end, b'\n');
+        let stop = pages::find(&part[0..end], b'\n');
         letters = put(line, letters, &part[0..stop]);
         if stop < end {
             return whole(
@@ -105,12 +107,15 @@ fn more(part: &mut [u8], line: &mut [u8], letters: usize) -> Line
     last(line, 0)
 }
 
-// What has come so far, and how much it is: a program that waits for its answer gets it. Nothing comes where no more will.
-fn read(part: &mut [u8]) -> usize
+// What has come so far, and how much it is: a program that waits for its answer gets it. Nothing comes where no more will, or where reading
+// fails.
+fn read<R: Read>(from: &mut R, part: &mut [u8]) -> usize
     ensures { result ≤ length part.new }
 {
-    let got = libc::read(STDIN_FILENO, part);
-    io::count(got, part)
+    match from.read(part) {
+        Ok(got) => got,
+        Err(_) => 0,
+    }
 }
 
 // Puts the letters behind those that are there, as many as there is place for. The answer is how many the line has so far; of a line that is

@@ -3,6 +3,7 @@
 //
 // What a call answers is the number of the first of its tests that fails: specs/Tests.antt has a call's tests in order, and proofs/ the
 // laws about them.
+#![tactic(auto)]
 
 pub const ACCEPTED: u32 = 0;
 

@@ -2,10 +2,12 @@
 //
 // What is a satellite's own is asked of this type, here and nowhere else. The address does not tell the satellite: C has
 // two owners.
+#![tactic(auto)]
+
 ghost use Rattle.std.specs.Prelude.{◌≡◌, length};
 ghost use Rattle.satellites.specs.Satellites.{seven, known, values_in, values_of, number_of, address_of, training_of, size_byte_of, type_byte_at};
 
-#[derive(Drop)]
+#[derive(Clone, Copy)]
 pub enum Satellite {
     HadesD,
     HadesIcm,
@@ -17,7 +19,7 @@ pub enum Satellite {
 }
 
 // What a number names: one of the seven, or none.
-#[derive(Drop)]
+#[derive(Clone, Copy)]
 pub enum Known {
     Is(Satellite),
     Unknown,

@@ -6,6 +6,8 @@
 // A caller says which distances and which start it goes by, as numbers: the `far` latest sent bits, the earliest the highest. Their
 // like comes back as it stands behind the part, so a body can be worked on in several parts. They are numbers, not a struct, since a
 // compiler sees through a call with numbers: with distances that it knows a step takes half the time.
+#![tactic(auto)]
+
 mod walk;
 
 ghost use Rattle.scrambler.specs.Scrambler.{Passes, from};
@@ -18,7 +20,7 @@ pub const FAR: u32 = 17;
 
 pub const START: u32 = 0x2C35_0000 % (1 << FAR);
 
-#[derive(Drop)]
+#[derive(Clone, Copy)]
 pub enum Direction {
     Scramble,
     Unscramble,

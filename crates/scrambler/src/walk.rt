@@ -31,7 +31,7 @@ pub(crate) fn pass(way: Direction, near: u32, far: u32, start: u32, part: &mut [
 }
 
 // What a byte leaves: the sent bits, the latest the lowest, and the byte that comes out.
-#[derive(Drop)]
+#[derive(Clone, Copy)]
 struct Passed {
     sent: u32,
     byte: u8,

@@ -1,5 +1,5 @@
 -- Any two results that a public function's contract allows for one input are equal: the answer, and what is left in the lent bytes. Of an
--- answer that is a part of a lent text, this is said of its letters, `now r`.
+-- answer that is a part of a lent text, this is said of its letters, `r.now`.
 -- `Post` is the contract's own text, as the check reads it: the arguments, the result, and the parameters at exit.
 -- And nothing is asked of a caller: `Pre`, what the contract requires, holds of all arguments.
 -- Assumes nothing.

@@ -1,6 +1,8 @@
 // A line's words, and what a word is: a decimal number, or bytes in hexadecimal.
 //
 // Every function answers for all input: nothing is asked of a caller.
+#![tactic(auto)]
+
 ghost use Rattle.std.specs.Prelude.{◌≡◌, ◌+◌, ◌≤◌, length, drop};
 ghost use Rattle.words.specs.Words.{ahead, words_of, word_of};
 ghost use Rattle.words.specs.Numbers.{digit_of, are_digits, decimal_of, pairs_of, left_by};
@@ -9,14 +11,14 @@ ghost use Rattle.words.specs.Numbers.{digit_of, are_digits, decimal_of, pairs_of
 const LAST_BLANK: u8 = 32;
 
 // A number of up to 32 bits, or none.
-#[derive(Drop)]
+#[derive(Clone, Copy)]
 pub enum Number {
     Is(u32),
     None,
 }
 
 // So many bytes, or why the text is none: another letter, a digit too few, more bytes than there is place for.
-#[derive(Drop)]
+#[derive(Clone, Copy)]
 pub enum Bytes {
     Are(usize),
     NotDigits,
@@ -28,7 +30,7 @@ pub enum Bytes {
 // 32, ahead of the first and behind the last too.
 pub fn word(line: &[u8], n: usize) -> &[u8]
     ensures result_value { result.now ≡ word_of n line.now }
-    ensures line_value { line.now ≡ line.now }
+    ensures line_unchanged { line.exit.now ≡ line.entry.now }
 {
     let mut left = n;
     let mut from = run_end(line, 0, false);
@@ -46,7 +48,7 @@ pub fn word(line: &[u8], n: usize) -> &[u8]
 // How many words a line has.
 pub fn count(line: &[u8]) -> usize
     ensures value { result ≡ length (words_of line.now) }
-    ensures line_value { line.now ≡ line.now }
+    ensures line_unchanged { line.exit.now ≡ line.entry.now }
 {
     let mut words = 0;
     let mut at = run_end(line, 0, false);
@@ -76,7 +78,7 @@ fn run_end(text: &[u8], at: usize, letters: bool) -> usize
 // Whether each letter is a digit of that base; an empty text has none that is not. A base above 16 takes every letter.
 pub fn are_digits(text: &[u8], base: u8) -> bool
     ensures value { result ≡ are_digits base text.now }
-    ensures text_value { text.now ≡ text.now }
+    ensures text_unchanged { text.exit.now ≡ text.entry.now }
 {
     let mut i = 0;
     while i < text.len() {
@@ -91,7 +93,7 @@ pub fn are_digits(text: &[u8], base: u8) -> bool
 // The number of up to 32 bits that decimal digits write, one or more; zeros may lead.
 pub fn decimal(text: &[u8]) -> Number
     ensures value { result ≡ decimal_of text.now }
-    ensures text_value { text.now ≡ text.now }
+    ensures text_unchanged { text.exit.now ≡ text.entry.now }
 {
     if text.len() == 0 {
         return Number::None;
@@ -116,7 +118,7 @@ pub fn decimal(text: &[u8]) -> Number
 // is something else, or `out` has no place for them, all of it stays.
 pub fn pairs(text: &[u8], out: &mut [u8]) -> Bytes
     ensures value { result ≡ pairs_of text.now out.old }
-    ensures text_value { text.now ≡ text.now }
+    ensures text_unchanged { text.exit.now ≡ text.entry.now }
     ensures out_after { out.new ≡ left_by result text.now out.old }
 {
     if !are_digits(text, 16) {
@@ -138,6 +140,7 @@ pub fn pairs(text: &[u8], out: &mut [u8]) -> Bytes
 }
 
 // A digit's value; 16 for what is no digit.
+#[tactic(auto, unfolding(crate::specs::Numbers::digit_of))]
 fn digit(letter: u8) -> u8
     ensures value { result ≡ digit_of letter }
     ensures upper_bound { result ≤ 16 }
