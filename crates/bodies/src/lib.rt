@@ -2,6 +2,8 @@
 // FORMAT 6).
 //
 // A layout is walked once, from its first width to its last, with the bit at which the next field starts.
+#![tactic(auto)]
+
 ghost use Rattle.std.specs.Prelude.{◌≡◌, ◌^◌, ltb, get_or};
 ghost use Rattle.bodies.specs.Bodies.{filled, fitting, laid_from, values_from, widths_in};
 
@@ -11,7 +13,7 @@ use layouts::{Layout, MOST_FIELDS};
 // not lie inside the body reads as 0.
 pub fn read(layout: Layout, body: &[u8], room: &mut [u32])
     ensures room_after { room.new ≡ filled (values_from 0 (widths_in layout) body.now) room.old }
-    ensures body_value { body.now ≡ body.now }
+    ensures body_unchanged { body.exit.now ≡ body.entry.now }
 {
     let widths = layout.widths;
     let mut at: usize = 0;
@@ -34,7 +36,7 @@ pub fn read(layout: Layout, body: &[u8], room: &mut [u32])
 // A value that is missing counts as 0.
 pub fn fitting(layout: Layout, values: &[u32]) -> usize
     ensures value { result ≡ fitting (widths_in layout) values.now }
-    ensures values_value { values.now ≡ values.now }
+    ensures values_unchanged { values.exit.now ≡ values.entry.now }
 {
     let widths = layout.widths;
     let mut k: usize = 0;
@@ -54,7 +56,7 @@ pub fn fitting(layout: Layout, values: &[u32]) -> usize
 // 0; a field that does not lie inside the body is not written.
 pub fn write(layout: Layout, values: &[u32], body: &mut [u8])
     ensures body_after { body.new ≡ laid_from 0 (widths_in layout) values.now body.old }
-    ensures values_value { values.now ≡ values.now }
+    ensures values_unchanged { values.exit.now ≡ values.entry.now }
 {
     let widths = layout.widths;
     let mut at: usize = 0;

@@ -1,4 +1,6 @@
 // Layouts: the fields of each type that a satellite carries (01, "The field tables"; FORMAT 6).
+#![tactic(auto)]
+
 mod table;
 mod widths;
 
@@ -13,7 +15,7 @@ pub const MOST_FIELDS: usize = 95;
 // What a satellite's type is made of: how many fields, their widths in bits, the bytes from type byte to checksum, the bytes
 // of the whole frame, and whether the first field is the satellite's clock, 32 bits. It is fetched once and then walked. A type
 // that is not carried has none of these.
-#[derive(Drop)]
+#[derive(Clone, Copy)]
 pub struct Layout {
     pub carried: bool,
     pub fields: usize,

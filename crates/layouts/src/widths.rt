@@ -7,7 +7,7 @@ use crate::MOST_FIELDS;
 use crate::table::{NUMBERS, Row};
 
 // How many fields there are, and their widths, with zeros behind them.
-#[derive(Drop)]
+#[derive(Clone, Copy)]
 pub(crate) struct Widths {
     pub(crate) fields: usize,
     pub(crate) bits: [u8; MOST_FIELDS],

@@ -22,10 +22,10 @@ use Rattle.names.proofs.Carried.{not_carried}
 use Rattle.names.proofs.Everywhere.{each-satellite, each-type}
 
 -- a type has as many names as fields
-abbrev as_many : Satellite → ℕ → Bool
-as_many s t = eqb (length (names_of s t)) (length (entry_of s t).widths)
+abbrev so_many : Satellite → ℕ → Bool
+so_many s t = eqb (length (names_of s t)) (length (entry_of s t).widths)
 
-all-as-many : T (every (λ s. every (as_many s) (types_of s)) seven)
+all-as-many : T (every (λ s. every (so_many s) (types_of s)) seven)
 unfolding every layouts counted among carried_by found table names_in text parts index array_of grid_of
 all-as-many = tt
 
@@ -35,8 +35,8 @@ as_many s t = go (carries s t) refl
   where
     go : (b : Bool) → carries s t ≡ b → length (names_of s t) ≡ length (entry_of s t).widths
     go true e =
-        let here = each-satellite (λ s. every (as_many s) (types_of s)) all-as-many s in
-        eqb→eq (length (names_of s t)) (length (entry_of s t).widths) (passes (as_many s) (types_of s) t here e)
+        let here = each-satellite (λ s. every (so_many s) (types_of s)) all-as-many s in
+        eqb→eq (length (names_of s t)) (length (entry_of s t).widths) (passes (so_many s) (types_of s) t here e)
     go false e = rw (not_carried s t e, no-entry s t e)
 
 -- a name has a letter, and as many as there is place for

@@ -6,9 +6,9 @@ use Prim.Native.Nat.{ℕ, suc, ◌+◌, ◌-◌, ◌*◌, ◌≤◌, ◌<◌}
 use native.Mathlib.Omega.{arith}
 use lib.Dec.{eqb, leb, ltb, leb-zero, leb-suc-suc}
 use lib.ListN.{length, get_or, take, drop, length-drop}
-use lib.Seq.{take-length, drop-drop}
+use lib.Seq.{take_all, drop-drop}
 use borrow.Author.Tests.{lt-ltb, le-leb, lt-leb, eq-eqb, ne_eqb, ltb-true, ltb-false, leb-true}
-use Rattle.bytes.specs.Bytes.{index_of, index_after, slice}
+use Rattle.pages.specs.Places.{index_of, index_after}
 use Rattle.words.specs.Words.{led, parts}
 use Rattle.names.specs.Names.{parts_of}
 use Rattle.names.specs.Lines.{ahead, is_of, line_of}
@@ -42,37 +42,42 @@ module _ (sep : ℕ) (xs : List ℕ) where
   unfolding parts_from
   parts-end from h = rw (lt-leb from (length xs) h)
 
-  -- from a place on: the part that ends at the next separator, and those behind it
-  pub parts_next : (from end : ℕ) → from ≤ length xs → end ≡ from + index_of sep (slice from (length xs) xs)
-      → parts_from sep xs from ≡ take (end - from) (drop from xs) ∷ parts_from sep xs (end + 1)
-  unfolding parts_from slice behind
-  parts_next from end h e =
-      let i = index_of sep (drop from xs) in
-      let at : end ≡ from + i = rw take-length at e in
-      let size : end - from ≡ i = omega arith in
-      let next : from + suc i ≡ end + 1 = omega arith in
-      rw (le-leb from (length xs) h, parts_first sep (drop from xs), size, drop-drop (suc i) from xs, next)
-      (ap (λ (b : Bool). take i (drop from xs) ∷ cond b (parts_of sep (drop (end + 1) xs)) []) (go (ltb i (length (drop from xs))) refl at))
+  -- from a place on: the part that ends at the next separator, i letters on, and those behind it
+  pub parts_next : (from i : ℕ) → from ≤ length xs → i ≡ index_of sep (take (length xs - from) (drop from xs))
+      → parts_from sep xs from ≡ take (from + i - from) (drop from xs) ∷ parts_from sep xs (from + i + 1)
+  unfolding parts_from behind
+  parts_next from i h e =
+      let n = index_of sep (drop from xs) in
+      let is : i ≡ n = rw (take_all (length xs - from) (drop from xs) (omega (arith, length-drop from xs))) at e in
+      let size : from + i - from ≡ n = omega arith in
+      let next : from + suc n ≡ from + i + 1 = omega arith in
+      rw (le-leb from (length xs) h, parts_first sep (drop from xs), size, drop-drop (suc n) from xs, next)
+      (ap (λ (b : Bool). take n (drop from xs) ∷ cond b (parts_of sep (drop (from + i + 1) xs)) []) (go (ltb n (length (drop from xs))) refl is))
     where
-      go : (b : Bool) → ltb (index_of sep (drop from xs)) (length (drop from xs)) ≡ b → end ≡ from + index_of sep (drop from xs)
-          → b ≡ leb (end + 1) (length xs)
-      go true t at = sym (le-leb (end + 1) (length xs) (omega (arith, ltb-true (index_of sep (drop from xs)) (length (drop from xs)) t, length-drop from xs)))
-      go false t at = sym (lt-leb (end + 1) (length xs) (omega (arith, ltb-false (index_of sep (drop from xs)) (length (drop from xs)) t, length-drop from xs)))
+      go : (b : Bool) → ltb (index_of sep (drop from xs)) (length (drop from xs)) ≡ b → i ≡ index_of sep (drop from xs)
+          → b ≡ leb (from + i + 1) (length xs)
+      go true t is =
+          let inside = ltb-true (index_of sep (drop from xs)) (length (drop from xs)) t in
+          sym (le-leb (from + i + 1) (length xs) (omega (arith, inside, length-drop from xs)))
+      go false t is =
+          let outside = ltb-false (index_of sep (drop from xs)) (length (drop from xs)) t in
+          sym (lt-leb (from + i + 1) (length xs) (omega (arith, outside, length-drop from xs)))
 
 -- ---- lines
 
-module _ (number ty : ℕ) (xs : List ℕ) (from end : ℕ) (h : from ≤ length xs) (e : end ≡ from + index_of 10 (slice from (length xs) xs)) where
+module _ (number ty : ℕ) (xs : List ℕ) (from i : ℕ) (h : from ≤ length xs)
+    (e : i ≡ index_of 10 (take (length xs - from) (drop from xs))) where
   -- the line that ends here is the one
-  pub line-here : is_of number ty (take (end - from) (drop from xs)) ≡ true
-      → drop ahead (take (end - from) (drop from xs)) ≡ line_of number ty (parts_from 10 xs from)
+  pub line-here : is_of number ty (take (from + i - from) (drop from xs)) ≡ true
+      → drop ahead (take (from + i - from) (drop from xs)) ≡ line_of number ty (parts_from 10 xs from)
   unfolding line_of
-  line-here t = rw (parts_next 10 xs from end h e, t)
+  line-here t = rw (parts_next 10 xs from i h e, t)
 
   -- or it is one behind it
-  pub line-past : is_of number ty (take (end - from) (drop from xs)) ≡ false
-      → line_of number ty (parts_from 10 xs (end + 1)) ≡ line_of number ty (parts_from 10 xs from)
+  pub line-past : is_of number ty (take (from + i - from) (drop from xs)) ≡ false
+      → line_of number ty (parts_from 10 xs (from + i + 1)) ≡ line_of number ty (parts_from 10 xs from)
   unfolding line_of
-  line-past t = rw (parts_next 10 xs from end h e, t)
+  line-past t = rw (parts_next 10 xs from i h e, t)
 
 -- ---- whether a line is of a type
 

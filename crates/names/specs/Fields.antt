@@ -61,7 +61,7 @@ unfoldable pub names_in : ℕ → ℕ → List Line → List (List ℕ)
 names_in number ty [] = []
 names_in number ty (l ∷ ls) = cond (among number l.sent_by && eqb l.frame_type ty) l.names (names_in number ty ls)
 
--- the names of the fields of a satellite's type; none for a type that the satellite does not carry (`not-Carried`)
+-- the names of the fields of a satellite's type; none for a type that the satellite does not carry (`not_carried`)
 abbrev pub names_of : Satellite → ℕ → List (List ℕ)
 names_of s ty = names_in (number_of s) ty table
 

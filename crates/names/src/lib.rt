@@ -1,4 +1,6 @@
 // The names of satellites and fields, as the satellite teams' documents print them (01, "The field tables"; FORMAT 6).
+#![tactic(auto)]
+
 mod lines;
 
 ghost use Rattle.std.specs.Prelude.{◌≡◌, [], get_or};
@@ -11,7 +13,7 @@ use satellites::Satellite;
 pub const MOST_LETTERS: usize = 16;
 
 // A name: its letters, and zeros behind them.
-#[derive(Drop)]
+#[derive(Clone, Copy)]
 pub struct Name {
     pub letters: usize,
     pub text: [u8; MOST_LETTERS],
@@ -33,12 +35,12 @@ pub fn of(satellite: Satellite, ty: u32, field: usize) -> Name
 // empty.
 pub fn in_row(row: &[u8], field: usize) -> Name
     ensures value { result ≡ written (get_or (parts_of 32 row.now) field []) }
-    ensures row_value { row.now ≡ row.now }
+    ensures row_unchanged { row.exit.now ≡ row.entry.now }
 {
     let mut left = field;
     let mut from = 0;
     while from <= row.len() {
-        let end = bytes::scan::find(row, from, row.len(), b' ');
+        let end = from + pages::find(&row[from..], b' ');
         if left == 0 {
             return Name::of(&row[from..end]);
         }

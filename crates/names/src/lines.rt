@@ -17,7 +17,7 @@ pub(crate) fn row_in(text: &[u8], number: u32, ty: u32) -> [u8; ROW]
 {
     let mut from = 0;
     while from <= text.len() {
-        let end = bytes::scan::find(text, from, text.len(), b'\n');
+        let end = from + pages::find(&text[from..], b'\n');
         let line = &text[from..end];
         if is_of(line, number, ty) {
             let mut row = [b' '; ROW];
