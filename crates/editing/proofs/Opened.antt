@@ -20,14 +20,17 @@ module _ (r : Register) (sent : List ℕ) (h : 3 ≤ length sent) where
   abbrev opened : List ℕ
   opened = opened_part r sent
 
-  -- copied over a part of its length, from a copy with more bytes behind
+  -- lent of a copy with more bytes behind
+  pub opened-lent : (copy behind : List ℕ) → copy ≡ opened → take (length sent - 0) (copy ++ behind) ≡ opened
+  opened-lent copy behind e =
+      take_at copy behind (length sent - 0) (ap length e ∙ length-opened r sent h ∙ omega arith) ∙ e
+
+  -- and copied over a part of its length
   pub opened-copied : (copy behind to : List ℕ) → copy ≡ opened → length to ≡ length sent
       → let from = take (length sent - 0) (copy ++ behind) in
       take (length from) from ++ drop (length from) to ≡ opened
   opened-copied copy behind to e same =
-      let front : take (length sent - 0) (copy ++ behind) ≡ opened =
-      take_at copy behind (length sent - 0) (ap length e ∙ length-opened r sent h ∙ omega arith) ∙ e in
-      ap (λ (l : List ℕ). take (length l) l ++ drop (length l) to) front
+      ap (λ (l : List ℕ). take (length l) l ++ drop (length l) to) (opened-lent copy behind e)
       ∙ ap₂ ◌++◌ (take-length opened) (drop_of_length-le to {i = length opened} (omega (arith, same, length-opened r sent h)))
       ∙ append-nil opened
 

@@ -68,7 +68,7 @@ fn change_by(
     ensures part_after { part.new ≡ part_after (from near far start) layout part.old field value }
 {
     let n = part.len();
-    bytes::copy(part, copy);
+    copy[0..n].copy_from_slice(part);
     let sums = sealing::open(near, far, start, &mut copy[0..n]);
     if sums.sent != sums.computed {
         return refusals::CHECKSUM;
@@ -80,7 +80,7 @@ fn change_by(
     let bit = layout.start(field);
     let width = layout.width(field);
     let end = n - sealing::CHECKSUM_BYTES;
-    bytes::copy(&copy[0..n], part);
+    part.copy_from_slice(&copy[0..n]);
     bits::replace_field(&mut part[1..end], bit, width, value);
     sealing::seal(near, far, start, part);
     refusals::ACCEPTED

@@ -2,6 +2,8 @@
 //
 // The call names the satellite by its number, answers for all input, and keeps nothing. What it cannot accept it refuses with the
 // paper's number, and a refused call leaves the frame as it was.
+#![tactic(auto)]
+
 mod editor;
 
 ghost use Rattle.std.specs.Prelude.{◌≡◌};

@@ -2,12 +2,14 @@
 //
 // The definitions, and the laws from which the demands follow, are in specs/ and proofs/. The code that reads, writes and edits is in the
 // crates above, whose contracts cite these definitions; here are the answers that they give.
+#![tactic(auto)]
+
 ghost use Rattle.std.specs.Prelude.{◌≡◌};
 ghost use Rattle.frames.specs.Reading.{refused_reading};
 ghost use Rattle.frames.specs.Writing.{refused_writing};
 
 // What reading answers: the refusal's number, and of an accepted frame its type and how many fields it has.
-#[derive(Drop)]
+#[derive(Clone, Copy)]
 pub struct Reading {
     pub refusal: u32,
     pub ty: u32,
@@ -16,7 +18,7 @@ pub struct Reading {
 
 // What writing and editing answer: the refusal's number, and of an accepted call the frame's length; on refusal 11, the field
 // that its value does not fit, in writing the lowest.
-#[derive(Drop)]
+#[derive(Clone, Copy)]
 pub struct Writing {
     pub refusal: u32,
     pub answer: usize,

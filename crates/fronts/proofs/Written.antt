@@ -5,8 +5,8 @@ use native.Mathlib.Omega.{arith}
 use mathlib.Core.Path.{◌≡◌, sym, ◌∙◌, ap, ap₂}
 use mathlib.Core.Bool.{Bool, true, false, cond}
 use mathlib.Core.List.{List, [], ◌∷◌, ◌++◌, append_assoc}
-use lib.ListN.{length, length-append, take, drop, set, length-take, length-drop, length-replicate, drop_of_length-le}
-use lib.Seq.{take-length, take_at, drop_at, set_at}
+use lib.ListN.{length, length-append, take, drop, set, length-drop, length-replicate, drop_of_length-le}
+use lib.Seq.{take_at, drop_at, set_at}
 use Rattle.satellites.specs.declared.Satellite.{Satellite}
 use Rattle.satellites.specs.Satellites.{training_of, size_byte_of, type_byte_at}
 use Rattle.frames.specs.Frames.{training, sync}
@@ -31,21 +31,18 @@ module _ (s : Satellite) (n : ℕ) (its : n ≡ training_of s) (p : List ℕ) (l
 
   -- the part as it is once training and sync are copied
   module _ (p1 ys : List ℕ)
-      (first : p1 ≡ take (length (take (n - 0) sixteen)) (take (n - 0) sixteen) ++ drop (length (take (n - 0) sixteen)) p)
-      (second : ys ≡ take 2 sync ++ drop 2 (take (n + 2 - n) (drop n p1))) where
+      (first : p1 ≡ take (n - 0) sixteen ++ drop (n - 0) p)
+      (second_is : ys ≡ sync) where
     as_long : length (training s) ≡ n
     as_long = length-replicate (training_of s) 0xAA ∙ sym its
 
     first-is : p1 ≡ training s ++ drop n p
-    first-is = first ∙ rw (training-taken s n its, take-length (training s), as_long)
+    first-is =
+        let all : n - 0 ≡ n = omega arith in
+        first ∙ ap (λ (l : List ℕ). l ++ drop (n - 0) p) (training-taken s n its) ∙ ap (λ (k : ℕ). training s ++ drop k p) all
 
     behind-is : drop n p1 ≡ drop n p
     behind-is = ap (drop n) first-is ∙ drop_at (training s) (drop n p) n as_long
-
-    second_is : ys ≡ sync
-    second_is =
-        let two : n + 2 - n ≡ 2 = omega arith in
-        second ∙ rw two (ap (λ (l : List ℕ). sync ++ l) (drop_of_length-le (take 2 (drop n p1)) {i = 2} (rw length-take (omega arith))))
 
     joined : over n p1 ys ≡ training s ++ (sync ++ drop 2 (drop n p))
     joined =

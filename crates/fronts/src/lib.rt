@@ -1,5 +1,7 @@
 // The front of a frame, up to its type byte: what comes before that byte, compared and written, and tests 2 to 6. A whole frame is also
 // tested for its length, test 7.
+#![tactic(auto)]
+
 mod preamble;
 
 ghost use Rattle.std.specs.Prelude.{◌≡◌};
@@ -16,7 +18,7 @@ use satellites::Satellite;
 pub use preamble::{SYNC, TRAINING, write};
 
 // A refused front has a type and a layout too; where the front ends before the type byte, those of type 0.
-#[derive(Drop)]
+#[derive(Clone, Copy)]
 pub struct Front {
     pub refusal: u32,
     pub ty: u32,
@@ -26,7 +28,7 @@ pub struct Front {
 // Tests 2 to 6, whatever comes behind the type byte.
 pub fn of(satellite: Satellite, frame: &[u8]) -> Front
     ensures value { result ≡ front_of (front_tests satellite frame.now) satellite frame.now }
-    ensures frame_value { frame.now ≡ frame.now }
+    ensures frame_unchanged { frame.exit.now ≡ frame.entry.now }
 {
     let ty = type_sent(satellite, frame);
     let layout = layouts::of(satellite, ty);
@@ -41,7 +43,7 @@ pub fn of(satellite: Satellite, frame: &[u8]) -> Front
 // Tests 2 to 7, on a whole frame.
 pub fn whole(satellite: Satellite, frame: &[u8]) -> Front
     ensures value { result ≡ front_of (whole_tests satellite frame.now) satellite frame.now }
-    ensures frame_value { frame.now ≡ frame.now }
+    ensures frame_unchanged { frame.exit.now ≡ frame.entry.now }
 {
     let front = of(satellite, frame);
     let number = front.refusal;
@@ -61,7 +63,7 @@ pub fn whole(satellite: Satellite, frame: &[u8]) -> Front
 // The type in the type byte; 0 where the frame ends ahead of it.
 pub fn type_sent(satellite: Satellite, frame: &[u8]) -> u32
     ensures value { result ≡ type_of satellite frame.now }
-    ensures frame_value { frame.now ≡ frame.now }
+    ensures frame_unchanged { frame.exit.now ≡ frame.entry.now }
 {
     let at = satellite.type_byte_at();
     if frame.len() <= at {

@@ -20,8 +20,8 @@ pub(crate) fn is_right(satellite: Satellite, frame: &[u8]) -> bool
 {
     let n = satellite.training();
     let training = [TRAINING; Satellite::LONG_TRAINING];
-    if check::same(&frame[0..n], &training[0..n]) {
-        return check::same(&frame[n..n + Satellite::SYNC_BYTES], &SYNC);
+    if frame[0..n] == training[0..n] {
+        return &frame[n..n + Satellite::SYNC_BYTES] == SYNC.as_slice();
     }
     false
 }
@@ -35,8 +35,8 @@ pub fn write(satellite: Satellite, size: u8, part: &mut [u8])
     }
     let n = satellite.training();
     let training = [TRAINING; Satellite::LONG_TRAINING];
-    bytes::copy(&training[0..n], part);
-    bytes::copy(&SYNC, &mut part[n..n + Satellite::SYNC_BYTES]);
+    part[0..n].copy_from_slice(&training[0..n]);
+    part[n..n + Satellite::SYNC_BYTES].copy_from_slice(&SYNC);
     if satellite.has_size_byte() {
         part[n + Satellite::SYNC_BYTES] = size;
     }

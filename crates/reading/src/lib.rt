@@ -2,6 +2,8 @@
 //
 // The call names the satellite by its number, answers for all input, and keeps nothing. What it cannot accept it refuses with the
 // paper's number, and a refused call leaves the room as it was.
+#![tactic(auto)]
+
 mod reader;
 
 ghost use Rattle.std.specs.Prelude.{◌≡◌};
@@ -17,7 +19,7 @@ use satellites::{Known, Satellite};
 pub fn read(satellite: u32, frame: &[u8], room: &mut [u32]) -> Reading
     ensures value { result ≡ reading (known satellite) frame.now room.old }
     ensures room_after { room.new ≡ room_after (known satellite) frame.now room.old }
-    ensures frame_value { frame.now ≡ frame.now }
+    ensures frame_unchanged { frame.exit.now ≡ frame.entry.now }
     ensures bytes { Bytes frame.now }
 {
     match Satellite::from_number(satellite) {

@@ -63,7 +63,7 @@ fn tell_from(
 {
     let n = sent.len();
     let end = n - sealing::CHECKSUM_BYTES;
-    bytes::copy(sent, copy);
+    copy[0..n].copy_from_slice(sent);
     let sums = sealing::open(near, far, start, &mut copy[0..n]);
     if sums.sent == sums.computed {
         bodies::read(layout, &copy[1..end], room);

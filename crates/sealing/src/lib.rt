@@ -3,6 +3,8 @@
 //
 // Callers hand in the distances and the start as numbers: each satellite can have its own, and the compiler still sees through them. All
 // functions answer for all input, for too few bytes too.
+#![tactic(auto)]
+
 ghost use Rattle.std.specs.Prelude.{◌≡◌, ◌-◌};
 ghost use Rattle.scrambler.specs.Scrambler.{from};
 ghost use Rattle.sealing.specs.Sealing.{opened_front, opened_part, sums_of, sealed_part};
@@ -17,7 +19,7 @@ pub const CHECKSUM_BYTES: usize = 2;
 const LEAST_BYTES: usize = 3;
 
 // The checksum that was sent, and the one that belongs to what was sent ahead of it.
-#[derive(Drop)]
+#[derive(Clone, Copy)]
 pub struct Sums {
     pub sent: u32,
     pub computed: u32,

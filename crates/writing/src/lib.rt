@@ -2,6 +2,8 @@
 //
 // The call names the satellite by its number, answers for all input, and keeps nothing. What it cannot accept it refuses with the
 // paper's number, and a refused call leaves the output as it was.
+#![tactic(auto)]
+
 mod writer;
 
 ghost use Rattle.std.specs.Prelude.{◌≡◌};
@@ -16,7 +18,7 @@ use satellites::{Known, Satellite};
 pub fn write(satellite: u32, ty: u32, values: &[u32], output: &mut [u8]) -> Writing
     ensures value { result ≡ writing (known satellite) ty values.now output.old }
     ensures output_after { output.new ≡ output_after (known satellite) ty values.now output.old }
-    ensures values_value { values.now ≡ values.now }
+    ensures values_unchanged { values.exit.now ≡ values.entry.now }
 {
     match Satellite::from_number(satellite) {
         Known::Is(named) => writer::write(named, ty, values, output),
