@@ -4,7 +4,7 @@ ghost use Rattle.std.specs.Prelude.{◌≡◌, ◌≤◌, length};
 use words::{Bytes, Number};
 
 // What a word holds: whether it is what it should be, and how many numbers or bytes there are.
-#[derive(Drop)]
+#[derive(Clone, Copy)]
 pub(crate) struct Held {
     pub right: bool,
     pub count: usize,
@@ -26,12 +26,12 @@ pub(crate) fn until(text: &[u8], at: usize, byte: u8) -> usize
     requires { at ≤ length text.now }
     ensures { (at ≤ result) × (result ≤ length text.now) }
 {
-    bytes::scan::find(text, at, text.len(), byte)
+    at + pages::find(&text[at..], byte)
 }
 
 // Whether the first word is `word`, and there are so many words.
 pub(crate) fn is(call: &[u8], word: &[u8], count: usize) -> bool {
-    if check::same(words::word(call, 0), word) {
+    if words::word(call, 0) == word {
         return words::count(call) == count;
     }
     false
@@ -51,7 +51,7 @@ pub(crate) fn are_numbers(call: &[u8], end: usize, out: &mut [u32]) -> bool {
 
 // Numbers with commas between them go to the start of `out`; `-` holds none.
 pub(crate) fn list(text: &[u8], out: &mut [u32]) -> Held {
-    if check::same(text, b"-") {
+    if text == b"-".as_slice() {
         return right(0);
     }
     let mut from = 0;
@@ -92,7 +92,7 @@ fn put(out: &mut [u32], k: usize, value: u32) -> bool
 
 // Pieces of bytes with commas between them go to the start of `out`; `-` holds none.
 pub(crate) fn bytes(text: &[u8], out: &mut [u8]) -> Held {
-    if check::same(text, b"-") {
+    if text == b"-".as_slice() {
         return right(0);
     }
     let mut all = right(0);

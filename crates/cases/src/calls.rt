@@ -124,7 +124,7 @@ fn with_copy(
     if copy.len() < n {
         return not_understood(page);
     }
-    bytes::copy(bytes, copy);
+    copy[0..n].copy_from_slice(bytes);
     changed(which, page, given, bytes, &copy[0..n])
 }
 

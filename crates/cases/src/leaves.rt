@@ -40,7 +40,7 @@ pub(crate) fn unscramble(
 fn put_passed(page: &mut [u8], sent: u32, bytes: &[u8], before: &[u8]) -> usize {
     let answer = page::put_low_bytes(page, 0, sent, 0);
     let end = pages::text(page, answer, b" ");
-    if check::same(bytes, before) {
+    if bytes == before {
         return pages::text(page, end, b"=");
     }
     page::put_behind(page, end, bytes, START_BYTES)

@@ -3,20 +3,25 @@ ghost use Rattle.std.specs.Prelude.{◌≡◌, true, ◌≤◌, length};
 
 use crate::{call, calls};
 use input::Found;
-use libc::STDOUT_FILENO;
 
-// How many cases there were so far, and how many of them differ.
-#[derive(Drop)]
+// Standard output.
+const STDOUT_FILENO: i32 = 1;
+
+// How many cases there were so far, and how many of them differ; and whether what was to be written could be: it can not where whoever reads
+// it has gone.
+#[derive(Clone, Copy)]
 pub(crate) struct Tally {
     pub cases: u64,
     pub differ: u64,
+    pub open: bool,
 }
 
-#[derive(Drop)]
+#[derive(Clone, Copy)]
 enum Verdict {
     NoCase,
     Same,
     Differs,
+    Unwritten,
 }
 
 pub(crate) fn is_end(found: Found) -> bool {
@@ -37,8 +42,20 @@ pub(crate) fn weighed(text: &[u8], found: Found, line: u64, tally: Tally) -> Tal
 
 fn too_long(line: u64, tally: Tally) -> Tally {
     print_line(line);
-    io::write_all(STDOUT_FILENO, b"too long\n");
-    counted(Verdict::Differs, tally)
+    counted(differs(end(b"too long\n")), tally)
+}
+
+// A case that differs, by whether that was written.
+fn differs(written: bool) -> Verdict {
+    if written {
+        return Verdict::Differs;
+    }
+    Verdict::Unwritten
+}
+
+// Writes the last text of what is said of a case, and answers whether it was written.
+fn end(text: &[u8]) -> bool {
+    io::write_all(STDOUT_FILENO, text)
 }
 
 fn counted(verdict: Verdict, tally: Tally) -> Tally {
@@ -49,10 +66,17 @@ fn counted(verdict: Verdict, tally: Tally) -> Tally {
         Verdict::Same => Tally {
             cases: next(cases),
             differ,
+            open: true,
         },
         Verdict::Differs => Tally {
             cases: next(cases),
             differ: next(differ),
+            open: true,
+        },
+        Verdict::Unwritten => Tally {
+            cases,
+            differ,
+            open: false,
         },
     }
 }
@@ -80,18 +104,13 @@ fn judged(text: &[u8], line: u64) -> Verdict {
 fn controlled(text: &[u8], line: u64, page: &mut [u8]) -> Verdict {
     if agrees(text, page) {
         print_line(line);
-        io::write_all(
-            STDOUT_FILENO,
-            b"a wrong answer is taken for the right one\n",
-        );
-        return Verdict::Differs;
+        return differs(end(b"a wrong answer is taken for the right one\n"));
     }
     if is_understood(text, page) {
         return Verdict::Same;
     }
     print_line(line);
-    io::write_all(STDOUT_FILENO, b"a call that is not understood\n");
-    Verdict::Differs
+    differs(end(b"a call that is not understood\n"))
 }
 
 fn is_understood(text: &[u8], page: &mut [u8]) -> bool {
@@ -99,21 +118,23 @@ fn is_understood(text: &[u8], page: &mut [u8]) -> bool {
     if page.len() < n {
         return false;
     }
-    !check::same(&page[0..n], b"?")
+    &page[0..n] != b"?".as_slice()
 }
 
 fn compared(text: &[u8], line: u64, page: &mut [u8]) -> Verdict {
     if call::until(text, 0, b'|') == text.len() {
-        print_answered(text, page);
-        return Verdict::NoCase;
+        if print_answered(text, page) {
+            return Verdict::NoCase;
+        }
+        return Verdict::Unwritten;
     }
     if agrees(text, page) {
         return Verdict::Same;
     }
     print_line(line);
-    print_difference(text, page);
-    Verdict::Differs
+    differs(print_difference(text, page))
 }
+
 // The bytes of ` | `.
 const BAR: usize = 3;
 
@@ -128,7 +149,7 @@ fn parted(text: &[u8]) -> usize
     if text.len() - bar < 2 {
         return text.len();
     }
-    if check::same(&text[bar - 1..bar + 2], b" | ") {
+    if &text[bar - 1..bar + 2] == b" | ".as_slice() {
         return bar - 1;
     }
     text.len()
@@ -151,34 +172,33 @@ fn agrees(text: &[u8], page: &mut [u8]) -> bool {
 fn agree(expected: &[u8], answered: &[u8]) -> bool
     ensures { result ≡ true → expected.now ≡ answered.now }
 {
-    if check::same(answered, b"?") {
+    if answered == b"?".as_slice() {
         return false;
     }
-    check::same(expected, answered)
+    expected == answered
 }
 
-// The call, and both answers.
-fn print_difference(text: &[u8], page: &mut [u8]) {
-    let end = parted(text);
-    if text.len() - end < BAR {
+// The call, and both answers. This function and the two below answer whether all was written.
+fn print_difference(text: &[u8], page: &mut [u8]) -> bool {
+    let bar = parted(text);
+    if text.len() - bar < BAR {
         io::write_all(STDOUT_FILENO, text);
-        io::write_all(STDOUT_FILENO, b"\n    is no case\n");
-        return;
+        return end(b"\n    is no case\n");
     }
-    io::write_all(STDOUT_FILENO, &text[0..end]);
+    io::write_all(STDOUT_FILENO, &text[0..bar]);
     io::write_all(STDOUT_FILENO, b"\n    expected ");
-    io::write_all(STDOUT_FILENO, &text[end + BAR..]);
-    print_ours(&text[0..end], page);
+    io::write_all(STDOUT_FILENO, &text[bar + BAR..]);
+    print_ours(&text[0..bar], page)
 }
 
-fn print_ours(call: &[u8], page: &mut [u8]) {
+fn print_ours(call: &[u8], page: &mut [u8]) -> bool {
     let n = calls::answer(call, page);
     if page.len() < n {
-        return;
+        return true;
     }
     io::write_all(STDOUT_FILENO, b"\n    answered ");
     io::write_all(STDOUT_FILENO, &page[0..n]);
-    io::write_all(STDOUT_FILENO, b"\n");
+    end(b"\n")
 }
 
 fn print_line(line: u64) {
@@ -188,15 +208,15 @@ fn print_line(line: u64) {
 }
 
 // A call that has no answer behind it.
-fn print_answered(call: &[u8], page: &mut [u8]) {
+fn print_answered(call: &[u8], page: &mut [u8]) -> bool {
     let n = calls::answer(call, page);
     if page.len() < n {
-        return;
+        return true;
     }
     io::write_all(STDOUT_FILENO, call);
     io::write_all(STDOUT_FILENO, b" | ");
     io::write_all(STDOUT_FILENO, &page[0..n]);
-    io::write_all(STDOUT_FILENO, b"\n");
+    end(b"\n")
 }
 
 pub(crate) fn print_tally(tally: Tally) {

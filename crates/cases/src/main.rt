@@ -27,6 +27,8 @@
 // must not be taken for the right one. A call with nothing behind it is answered. A call that is not understood, or lends more than
 // `calls::MOST` places or `calls::MOST_BYTES` bytes, has the answer `?`, which agrees with nothing. The last line says how many cases
 // there were and how many differ.
+#![tactic(auto)]
+
 mod call;
 mod calls;
 mod degrees;
@@ -38,18 +40,22 @@ mod page;
 
 use input::Place;
 use line::Tally;
+use std::io::Read;
 
 // No input has so many lines.
 const MOST_LINES: u64 = 0xFFFF_FFFF_FFFF;
 
-fn main() {
+fn main(rt: HostRuntime) {
+    let mut stdin = rt.stdin();
     let mut part = io::large_buffer();
     let mut line = io::buffer();
     let none = Tally {
         cases: 0,
         differ: 0,
+        open: true,
     };
     compare(
+        &mut stdin,
         &mut part,
         &mut line,
         none,
@@ -61,11 +67,11 @@ fn main() {
     );
 }
 
-fn compare(part: &mut [u8], line: &mut [u8], tally: Tally, place: Place) {
+fn compare<R: Read>(from: &mut R, part: &mut [u8], line: &mut [u8], tally: Tally, place: Place) {
     let mut tally = tally;
     let mut place = place;
     for number in 1..MOST_LINES {
-        let next = input::next(part, line, place);
+        let next = input::next(from, part, line, place);
         let found = next.found;
         let letters = next.letters;
         place = next.place;
@@ -73,5 +79,8 @@ fn compare(part: &mut [u8], line: &mut [u8], tally: Tally, place: Place) {
             return line::print_tally(tally);
         }
         tally = line::weighed(&line[0..letters], found, number, tally);
+        if !tally.open {
+            return;
+        }
     }
 }

@@ -2,14 +2,14 @@
 use crate::call::is;
 
 // A call ends with bytes, or with a list.
-#[derive(Drop)]
+#[derive(Clone, Copy)]
 pub(crate) enum Call {
     OfBytes(OfBytes),
     OfList(OfList),
     Unknown,
 }
 
-#[derive(Drop)]
+#[derive(Clone, Copy)]
 pub(crate) enum OfBytes {
     Read,
     Day,
@@ -19,7 +19,7 @@ pub(crate) enum OfBytes {
 }
 
 // The calls that may change their bytes.
-#[derive(Drop)]
+#[derive(Clone, Copy)]
 pub(crate) enum Change {
     Edit,
     Replace,
@@ -27,7 +27,7 @@ pub(crate) enum Change {
     Unscramble,
 }
 
-#[derive(Drop)]
+#[derive(Clone, Copy)]
 pub(crate) enum OfList {
     Write,
     Summary,

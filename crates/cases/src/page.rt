@@ -25,7 +25,7 @@ pub(crate) fn put_bytes(page: &mut [u8], at: usize, bytes: &[u8]) -> usize {
 
 // What a call left of bytes that it may change: `=` where they stayed.
 pub(crate) fn put_changed(page: &mut [u8], at: usize, bytes: &[u8], before: &[u8]) -> usize {
-    if check::same(bytes, before) {
+    if bytes == before {
         return pages::text(page, at, b"=");
     }
     put_bytes(page, at, bytes)

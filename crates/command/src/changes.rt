@@ -3,7 +3,7 @@ use crate::frame::MOST_WORDS;
 use crate::given::{Typed, Values};
 use crate::{fields, given, picture};
 use frames::Writing;
-use printing::bodies::MOST_BYTES;
+use printing::sent_parts::MOST_BYTES;
 use satellites::{Known, Satellite};
 use words::Number;
 
@@ -73,7 +73,7 @@ fn write_refused(number: u32, ty: u32, values: &[u32], writing: Writing) {
 }
 
 // One field of a frame, and its new value.
-#[derive(Drop)]
+#[derive(Clone, Copy)]
 struct Change {
     satellite: Satellite,
     ty: u32,
@@ -110,7 +110,7 @@ fn edit_in(change: Change, frame: &[u8], values: &[u32], copy: &mut [u8]) {
     if copy.len() < n {
         return;
     }
-    bytes::copy(frame, copy);
+    copy[0..n].copy_from_slice(frame);
     edit_copy(change, frame, values, &mut copy[0..n]);
 }
 

@@ -7,10 +7,10 @@ use crate::{changes, fields, following, frame, given, helps, warmth};
 // What the next line is, is the answer: frames for `csv` and `json`.
 pub(crate) fn answer(line: &[u8]) -> Next {
     let word = words::word(line, 0);
-    if check::same(word, b"csv") {
+    if word == b"csv".as_slice() {
         return following::csv(line);
     }
-    if check::same(word, b"json") {
+    if word == b"json".as_slice() {
         return following::json(line);
     }
     act(line, word);
@@ -18,35 +18,35 @@ pub(crate) fn answer(line: &[u8]) -> Next {
 }
 
 fn act(line: &[u8], word: &[u8]) {
-    if check::same(word, b"read") {
+    if word == b"read".as_slice() {
         return frame::of(line, Asked::Read);
     }
-    if check::same(word, b"fields") {
+    if word == b"fields".as_slice() {
         return fields::list(line);
     }
-    if check::same(word, b"layouts") {
+    if word == b"layouts".as_slice() {
         return fields::layouts(line);
     }
-    if check::same(word, b"write") {
+    if word == b"write".as_slice() {
         return changes::write(line);
     }
-    if check::same(word, b"edit") {
+    if word == b"edit".as_slice() {
         return frame::of(line, Asked::Edit);
     }
     act_else(line, word);
 }
 
 fn act_else(line: &[u8], word: &[u8]) {
-    if check::same(word, b"explain") {
+    if word == b"explain".as_slice() {
         return frame::of(line, Asked::Explain);
     }
-    if check::same(word, b"temperature") {
+    if word == b"temperature".as_slice() {
         return warmth::of(line, Codes::Each);
     }
-    if check::same(word, b"summary") {
+    if word == b"summary".as_slice() {
         return warmth::of(line, Codes::Day);
     }
-    if check::same(word, b"help") {
+    if word == b"help".as_slice() {
         return helps::help(line);
     }
     given::wrong_word(line, 0, b"unknown command", b" (help lists the commands)");

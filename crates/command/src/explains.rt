@@ -2,7 +2,7 @@
 use crate::picture::plus;
 use crate::{frame, given};
 use frames::Reading;
-use printing::{bodies, tests};
+use printing::{sent_parts, tests};
 use satellites::{Known, Satellite};
 
 // Which test fails is what reading says.
@@ -96,13 +96,13 @@ fn parts(satellite: Satellite, frame: &[u8]) {
     }
     type_byte(satellite, frame);
     printing::text(b"body, as sent: ");
-    bodies::sent(satellite, frame);
+    sent_parts::sent(satellite, frame);
     printing::text(b"\nbody, unscrambled: ");
-    bodies::unscrambled(satellite, frame);
+    sent_parts::unscrambled(satellite, frame);
     printing::text(b"\nchecksum: ");
-    bodies::sums(satellite, frame);
+    sent_parts::sums(satellite, frame);
     printing::text(b"\nbehind the frame: ");
-    bodies::surplus(satellite, frame);
+    sent_parts::surplus(satellite, frame);
     printing::text(b"\n");
 }
 

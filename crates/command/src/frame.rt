@@ -2,12 +2,12 @@
 use crate::given::Framed;
 use crate::{changes, explains, fields, given};
 use frames::Reading;
-use printing::bodies::MOST_BYTES;
+use printing::sent_parts::MOST_BYTES;
 use printing::tests::ROOM;
 use satellites::{Known, Satellite};
 use words::Number;
 
-#[derive(Drop)]
+#[derive(Clone, Copy)]
 pub(crate) enum Asked {
     Read,
     Explain,

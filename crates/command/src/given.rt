@@ -67,7 +67,7 @@ pub(crate) fn number(word: &[u8]) -> Number {
 }
 
 // Satellite and type, which are the words behind the command's own.
-#[derive(Drop)]
+#[derive(Clone, Copy)]
 pub(crate) enum Typed {
     Is(u32, u32),
     Unknown,
@@ -86,7 +86,7 @@ pub(crate) fn satellite_and_type(line: &[u8]) -> Typed {
 }
 
 // A satellite and a type that it carries.
-#[derive(Drop)]
+#[derive(Clone, Copy)]
 pub(crate) enum Carried {
     By(Satellite, u32),
     Not,
@@ -196,7 +196,7 @@ pub(crate) fn no_satellite(number: u32) {
 }
 
 // What some words are as a frame: so many bytes, or which of them is at fault, and why.
-#[derive(Drop)]
+#[derive(Clone, Copy)]
 pub(crate) enum Framed {
     Is(usize),
     Bad(usize, Bytes),
@@ -230,7 +230,7 @@ pub(crate) fn frame_fault(line: &[u8], frame: Framed) {
 }
 
 // So many numbers, or a word is none.
-#[derive(Drop)]
+#[derive(Clone, Copy)]
 pub(crate) enum Values {
     Are(usize),
     None,

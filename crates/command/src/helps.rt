@@ -34,41 +34,41 @@ A line that begins with # is a remark, and has no answer.
 }
 
 fn of(line: &[u8], word: &[u8]) {
-    if check::same(word, b"layouts") {
+    if word == b"layouts".as_slice() {
         return layouts();
     }
-    if check::same(word, b"fields") {
+    if word == b"fields".as_slice() {
         return fields();
     }
-    if check::same(word, b"read") {
+    if word == b"read".as_slice() {
         return read();
     }
-    if check::same(word, b"csv") {
+    if word == b"csv".as_slice() {
         return csv();
     }
-    if check::same(word, b"json") {
+    if word == b"json".as_slice() {
         return json();
     }
-    if check::same(word, b"write") {
+    if word == b"write".as_slice() {
         return write();
     }
     of_others(line, word);
 }
 
 fn of_others(line: &[u8], word: &[u8]) {
-    if check::same(word, b"edit") {
+    if word == b"edit".as_slice() {
         return edit();
     }
-    if check::same(word, b"explain") {
+    if word == b"explain".as_slice() {
         return explain();
     }
-    if check::same(word, b"temperature") {
+    if word == b"temperature".as_slice() {
         return temperature();
     }
-    if check::same(word, b"summary") {
+    if word == b"summary".as_slice() {
         return summary();
     }
-    if check::same(word, b"help") {
+    if word == b"help".as_slice() {
         return all();
     }
     given::wrong_word(line, 1, b"unknown command", b" (help lists the commands)");

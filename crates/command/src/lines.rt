@@ -2,9 +2,10 @@
 use crate::following::Row;
 use crate::{commands, following, given};
 use input::{Found, Place};
+use std::io::Read;
 
 // What the next line is: a command, or a satellite's frame, which becomes a row; or no line is read any more.
-#[derive(Drop)]
+#[derive(Clone, Copy)]
 pub(crate) enum Next {
     Command,
     Frame(u32, Row),
@@ -14,8 +15,17 @@ pub(crate) enum Next {
 // No input has so many lines.
 const MOST_LINES: u64 = 0xFFFF_FFFF_FFFF;
 
+// Standard output.
+const STDOUT_FILENO: i32 = 1;
+
 // Answers the lines that come. They are commands if `driven`; else one command came by arguments, and they are its frames.
-pub(crate) fn follow(part: &mut [u8], line: &mut [u8], next: Next, driven: bool) {
+pub(crate) fn follow<R: Read>(
+    from: &mut R,
+    part: &mut [u8],
+    line: &mut [u8],
+    next: Next,
+    driven: bool,
+) {
     let mut next = next;
     let mut place = Place {
         at: 0,
@@ -24,7 +34,7 @@ pub(crate) fn follow(part: &mut [u8], line: &mut [u8], next: Next, driven: bool)
     };
     let mut lines = 0;
     while lines < MOST_LINES {
-        let got = input::next(part, line, place);
+        let got = input::next(from, part, line, place);
         let found = got.found;
         let letters = got.letters;
         place = got.place;
@@ -74,8 +84,10 @@ fn command_too_long(line: &[u8], driven: bool) -> Next {
 }
 
 fn frame_too_long(number: u32, row: Row) -> Next {
-    following::too_long(number, row);
-    Next::Frame(number, row)
+    if following::too_long(number, row) {
+        return Next::Frame(number, row);
+    }
+    Next::End
 }
 
 fn answered(line: &[u8], next: Next, driven: bool) -> Next {
@@ -102,13 +114,19 @@ fn command(line: &[u8], driven: bool) -> Next {
     }
 }
 
-// An answer has ended.
+// An answer has ended. No more follow where it could not be written.
 fn close(driven: bool) -> Next {
     if driven {
-        printing::text(b"\n");
-        return Next::Command;
+        if end(b"\n") {
+            return Next::Command;
+        }
     }
     Next::End
+}
+
+// Writes the last text of an answer or of a row, and answers whether it was written: it is not where whoever reads the answers has gone.
+pub(crate) fn end(text: &[u8]) -> bool {
+    io::write_all(STDOUT_FILENO, text)
 }
 
 // An empty line ends the frames.
@@ -116,6 +134,8 @@ fn frame(line: &[u8], number: u32, row: Row, driven: bool) -> Next {
     if words::count(line) == 0 {
         return close(driven);
     }
-    following::frame(line, number, row);
-    Next::Frame(number, row)
+    if following::frame(line, number, row) {
+        return Next::Frame(number, row);
+    }
+    Next::End
 }

@@ -2,6 +2,8 @@
 //
 // It says what the proved library answers: read, written and edited frames, readings, layouts, names. Each answer to a line ends with an
 // empty line. A bad word is answered by one line, `error: ..`, and a refusal by one, `refused N: ..`; the next line is still answered.
+#![tactic(auto)]
+
 mod changes;
 mod commands;
 mod explains;
@@ -15,18 +17,31 @@ mod picture;
 mod warmth;
 
 use lines::Next;
+use std::env::{Env, FillError};
+use std::io::Read;
 
-fn main() {
+fn main(rt: HostRuntime) {
+    let mut stdin = rt.stdin();
     let mut part = io::large_buffer();
     let mut line = io::buffer();
-    if os::arg_count() < 2 {
-        return lines::follow(&mut part, &mut line, Next::Command, true);
+    if !has_arguments(&rt) {
+        return lines::follow(&mut stdin, &mut part, &mut line, Next::Command, true);
     }
-    by_arguments(&mut part, &mut line);
+    by_arguments(&rt, &mut stdin, &mut part, &mut line);
 }
 
-fn by_arguments(part: &mut [u8], line: &mut [u8]) {
-    let told = joined(line);
+// Whether there is an argument behind the program's own name.
+fn has_arguments<E: Env>(env: &E) -> bool {
+    let mut word = io::buffer();
+    match env.arg(1, &mut word) {
+        Ok(_) => true,
+        Err(FillError::TooLong) => true,
+        Err(FillError::NotPresent) => false,
+    }
+}
+
+fn by_arguments<E: Env, R: Read>(env: &E, from: &mut R, part: &mut [u8], line: &mut [u8]) {
+    let told = joined(env, line);
     let Line::Is(n) = told else {
         return given::line_too_long(line);
     };
@@ -36,40 +51,46 @@ fn by_arguments(part: &mut [u8], line: &mut [u8]) {
     let next = commands::answer(&line[0..n]);
     match next {
         Next::Command => {}
-        Next::Frame(number, row) => lines::follow(part, line, Next::Frame(number, row), false),
+        Next::Frame(number, row) => lines::follow(
+            from,
+            part,
+            line,
+            Next::Frame(number, row),
+            false,
+        ),
         Next::End => {}
     }
 }
 
 // Words that are joined to a line: its length, or that there is no place for it, and then it has what fits.
-#[derive(Drop)]
+#[derive(Clone, Copy)]
 enum Line {
     Is(usize),
     TooLong,
 }
 
 // The arguments as one line, a blank behind each.
-fn joined(line: &mut [u8]) -> Line {
+fn joined<E: Env>(env: &E, line: &mut [u8]) -> Line {
     let mut at = 0;
-    for i in 1..os::arg_count() {
-        let told = with_argument(line, at, i);
-        let Line::Is(end) = told else {
-            return told;
-        };
-        at = end;
+    let mut word = io::buffer();
+    for i in 1..usize::MAX {
+        match env.arg(i, &mut word) {
+            Ok(n) => match with_argument(line, at, &word[..n]) {
+                Line::Is(end) => at = end,
+                Line::TooLong => return Line::TooLong,
+            },
+            Err(FillError::TooLong) => {
+                put(line, at, &word);
+                return Line::TooLong;
+            }
+            Err(FillError::NotPresent) => return Line::Is(at),
+        }
     }
     Line::Is(at)
 }
 
-fn with_argument(line: &mut [u8], at: usize, i: usize) -> Line {
-    let mut word = io::buffer();
-    let n = os::arg(i, &mut word);
-    if os::errno() != 0 {
-        put(line, at, &word);
-        return Line::TooLong;
-    }
-    let told = put(line, at, &word[..n]);
-    match told {
+fn with_argument(line: &mut [u8], at: usize, word: &[u8]) -> Line {
+    match put(line, at, word) {
         Line::Is(end) => put(line, end, b" "),
         Line::TooLong => Line::TooLong,
     }

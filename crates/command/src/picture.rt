@@ -1,5 +1,5 @@
 // The picture of an edit: the sent bits of both frames, byte by byte and part by part, with the flipped ones marked and counted.
-use printing::bodies::CHECKSUM;
+use printing::sent_parts::CHECKSUM;
 use satellites::Satellite;
 
 pub(crate) fn print(satellite: Satellite, ty: u32, field: usize, sent: &[u8], edited: &[u8]) {

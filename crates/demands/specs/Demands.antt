@@ -195,7 +195,7 @@ pub record DemandThree : Type 0 where
       → Edit n frame k v e edited'
       → let ahead = 8 * (type_byte_at (printed n) + 1) + start_at (widths (printed n) r.ty) k in
       take ahead (bits_of edited') ≡ take ahead (bits_of frame)
-  -- the two frames are g and h; g is read into `room` and its field edited to v, h into `hall` and its field edited to u. _⊞_ is xor, place
+  -- the two frames are g and h; g is read into `room` and its field edited to v, h into `hall` and its field edited to u. ◌⊞◌ is xor, place
   -- by place: it has a 1 where a bit differs, so where a bit flips
   pub same-bits-flip : {n k v u : ℕ} {g room g' room' edited' h hall h' hall' changed' : List ℕ} {r q : Reading} {e f : Writing}
       → Read n g room r g' room' → r.refusal ≡ 0 → Read n h hall q h' hall' → q.refusal ≡ 0 → r.ty ≡ q.ty → k < r.count

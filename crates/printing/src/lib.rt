@@ -1,15 +1,19 @@
 // What the operators' command prints, on standard output: numbers, bytes, names, degrees, and why a frame is refused.
 //
 // A function here answers nothing, changes nothing and asks nothing. What it wrote no contract can say (docs/CONTRACTS.md).
-pub mod bodies;
+#![tactic(auto)]
+
 pub mod degrees;
 pub mod reasons;
+pub mod sent_parts;
 pub mod table;
 pub mod tests;
 
-use libc::STDOUT_FILENO;
 use names::Name;
 use satellites::{Known, Satellite};
+
+// Standard output.
+const STDOUT_FILENO: i32 = 1;
 
 pub fn text(text: &[u8]) {
     io::write_all(STDOUT_FILENO, text);

@@ -106,7 +106,7 @@ fn behind_preamble(test: u32, satellite: Satellite, frame: &[u8], type_byte: u8)
     if test == refusals::ROOM {
         return at_least(ROOM, layout.fields);
     }
-    crate::bodies::sums(satellite, frame);
+    crate::sent_parts::sums(satellite, frame);
 }
 
 fn address(satellite: Satellite, type_byte: u8) {
