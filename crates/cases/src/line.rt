@@ -7,8 +7,8 @@ use input::Found;
 // Standard output.
 const STDOUT_FILENO: i32 = 1;
 
-// How many cases there were so far, and how many of them differ; and whether what was to be written could be: it can not where whoever reads
-// it has gone.
+// How many cases there were so far, and how many of them differ; and whether the end of what was said of each was written: it is not where
+// whoever reads it has gone.
 #[derive(Clone, Copy)]
 pub(crate) struct Tally {
     pub cases: u64,
@@ -45,7 +45,7 @@ fn too_long(line: u64, tally: Tally) -> Tally {
     counted(differs(end(b"too long\n")), tally)
 }
 
-// A case that differs, by whether that was written.
+// A case that differs, by whether the end of what is said of it was written.
 fn differs(written: bool) -> Verdict {
     if written {
         return Verdict::Differs;
@@ -178,7 +178,7 @@ fn agree(expected: &[u8], answered: &[u8]) -> bool
     expected == answered
 }
 
-// The call, and both answers. This function and the two below answer whether all was written.
+// The call, and both answers. This function and the two below answer false where the end of what they write could not be written.
 fn print_difference(text: &[u8], page: &mut [u8]) -> bool {
     let bar = parted(text);
     if text.len() - bar < BAR {

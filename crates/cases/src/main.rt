@@ -41,11 +41,12 @@ mod page;
 use input::Place;
 use line::Tally;
 use std::io::Read;
+use std::process::ExitCode;
 
 // No input has so many lines.
 const MOST_LINES: u64 = 0xFFFF_FFFF_FFFF;
 
-fn main(rt: HostRuntime) {
+fn main(rt: HostRuntime) -> ExitCode {
     let mut stdin = rt.stdin();
     let mut part = io::large_buffer();
     let mut line = io::buffer();
@@ -54,20 +55,25 @@ fn main(rt: HostRuntime) {
         differ: 0,
         open: true,
     };
-    compare(
-        &mut stdin,
-        &mut part,
-        &mut line,
-        none,
-        Place {
-            at: 0,
-            end: 0,
-            ended: false,
-        },
-    );
+    let start = Place {
+        at: 0,
+        end: 0,
+        ended: false,
+    };
+    if compare(&mut stdin, &mut part, &mut line, none, start) {
+        return ExitCode::SUCCESS;
+    }
+    ExitCode::FAILURE
 }
 
-fn compare<R: Read>(from: &mut R, part: &mut [u8], line: &mut [u8], tally: Tally, place: Place) {
+// The answer is false where it stops since the end of what is said of a case could not be written.
+fn compare<R: Read>(
+    from: &mut R,
+    part: &mut [u8],
+    line: &mut [u8],
+    tally: Tally,
+    place: Place,
+) -> bool {
     let mut tally = tally;
     let mut place = place;
     for number in 1..MOST_LINES {
@@ -76,11 +82,13 @@ fn compare<R: Read>(from: &mut R, part: &mut [u8], line: &mut [u8], tally: Tally
         let letters = next.letters;
         place = next.place;
         if line::is_end(found) {
-            return line::print_tally(tally);
+            line::print_tally(tally);
+            return true;
         }
         tally = line::weighed(&line[0..letters], found, number, tally);
         if !tally.open {
-            return;
+            return false;
         }
     }
+    true
 }

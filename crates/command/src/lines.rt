@@ -4,12 +4,14 @@ use crate::{commands, following, given};
 use input::{Found, Place};
 use std::io::Read;
 
-// What the next line is: a command, or a satellite's frame, which becomes a row; or no line is read any more.
+// What the next line is: a command, or a satellite's frame, which becomes a row; or no line is read any more, at the end, or because the end
+// of an answer or of a row could not be written.
 #[derive(Clone, Copy)]
 pub(crate) enum Next {
     Command,
     Frame(u32, Row),
     End,
+    Unwritten,
 }
 
 // No input has so many lines.
@@ -18,14 +20,15 @@ const MOST_LINES: u64 = 0xFFFF_FFFF_FFFF;
 // Standard output.
 const STDOUT_FILENO: i32 = 1;
 
-// Answers the lines that come. They are commands if `driven`; else one command came by arguments, and they are its frames.
+// Answers the lines that come. They are commands if `driven`; else one command came by arguments, and they are its frames. The answer is
+// false where it stops since the end of an answer or of a row could not be written.
 pub(crate) fn follow<R: Read>(
     from: &mut R,
     part: &mut [u8],
     line: &mut [u8],
     next: Next,
     driven: bool,
-) {
+) -> bool {
     let mut next = next;
     let mut place = Place {
         at: 0,
@@ -39,19 +42,15 @@ pub(crate) fn follow<R: Read>(
         let letters = got.letters;
         place = got.place;
         next = taken(&line[0..letters], found, next, driven);
-        if is_over(next) {
-            return;
+        match next {
+            Next::Command => {}
+            Next::Frame(_number, _row) => {}
+            Next::End => return true,
+            Next::Unwritten => return false,
         }
         lines += 1;
     }
-}
-
-fn is_over(next: Next) -> bool {
-    match next {
-        Next::Command => false,
-        Next::Frame(_number, _row) => false,
-        Next::End => true,
-    }
+    true
 }
 
 fn taken(line: &[u8], found: Found, next: Next, driven: bool) -> Next {
@@ -65,7 +64,9 @@ fn taken(line: &[u8], found: Found, next: Next, driven: bool) -> Next {
 // Frames may have no empty line behind them.
 fn finished(next: Next, driven: bool) -> Next {
     if let Next::Frame(_number, _row) = next {
-        close(driven);
+        if let Next::Unwritten = close(driven) {
+            return Next::Unwritten;
+        }
     }
     Next::End
 }
@@ -74,7 +75,7 @@ fn too_long(line: &[u8], next: Next, driven: bool) -> Next {
     match next {
         Next::Command => command_too_long(line, driven),
         Next::Frame(number, row) => frame_too_long(number, row),
-        Next::End => Next::End,
+        Next::End | Next::Unwritten => next,
     }
 }
 
@@ -87,14 +88,14 @@ fn frame_too_long(number: u32, row: Row) -> Next {
     if following::too_long(number, row) {
         return Next::Frame(number, row);
     }
-    Next::End
+    Next::Unwritten
 }
 
 fn answered(line: &[u8], next: Next, driven: bool) -> Next {
     match next {
         Next::Command => command(line, driven),
         Next::Frame(number, row) => frame(line, number, row, driven),
-        Next::End => Next::End,
+        Next::End | Next::Unwritten => next,
     }
 }
 
@@ -109,22 +110,23 @@ fn command(line: &[u8], driven: bool) -> Next {
     let next = commands::answer(line);
     match next {
         Next::Command => close(driven),
-        Next::Frame(number, row) => Next::Frame(number, row),
-        Next::End => Next::End,
+        Next::Frame(_number, _row) => next,
+        Next::End | Next::Unwritten => next,
     }
 }
 
-// An answer has ended. No more follow where it could not be written.
+// An answer has ended. No more follow where its end could not be written.
 fn close(driven: bool) -> Next {
-    if driven {
-        if end(b"\n") {
-            return Next::Command;
-        }
+    if !driven {
+        return Next::End;
     }
-    Next::End
+    if end(b"\n") {
+        return Next::Command;
+    }
+    Next::Unwritten
 }
 
-// Writes the last text of an answer or of a row, and answers whether it was written: it is not where whoever reads the answers has gone.
+// Writes the last text of an answer or of a row, and answers whether that was written: it is not where whoever reads the answers has gone.
 pub(crate) fn end(text: &[u8]) -> bool {
     io::write_all(STDOUT_FILENO, text)
 }
@@ -137,5 +139,5 @@ fn frame(line: &[u8], number: u32, row: Row, driven: bool) -> Next {
     if following::frame(line, number, row) {
         return Next::Frame(number, row);
     }
-    Next::End
+    Next::Unwritten
 }

@@ -19,15 +19,25 @@ mod warmth;
 use lines::Next;
 use std::env::{Env, FillError};
 use std::io::Read;
+use std::process::ExitCode;
 
-fn main(rt: HostRuntime) {
+fn main(rt: HostRuntime) -> ExitCode {
     let mut stdin = rt.stdin();
     let mut part = io::large_buffer();
     let mut line = io::buffer();
-    if !has_arguments(&rt) {
-        return lines::follow(&mut stdin, &mut part, &mut line, Next::Command, true);
+    if has_arguments(&rt) {
+        return status(by_arguments(&rt, &mut stdin, &mut part, &mut line));
     }
-    by_arguments(&rt, &mut stdin, &mut part, &mut line);
+    status(lines::follow(&mut stdin, &mut part, &mut line, Next::Command, true))
+}
+
+// The status is 1 where the program stops since the end of an answer or of a row could not be written.
+fn status(written: bool) -> ExitCode {
+    if written {
+        ExitCode::SUCCESS
+    } else {
+        ExitCode::FAILURE
+    }
 }
 
 // Whether there is an argument behind the program's own name.
@@ -40,17 +50,19 @@ fn has_arguments<E: Env>(env: &E) -> bool {
     }
 }
 
-fn by_arguments<E: Env, R: Read>(env: &E, from: &mut R, part: &mut [u8], line: &mut [u8]) {
+// The answer is as that of `lines::follow`.
+fn by_arguments<E: Env, R: Read>(env: &E, from: &mut R, part: &mut [u8], line: &mut [u8]) -> bool {
     let told = joined(env, line);
     let Line::Is(n) = told else {
-        return given::line_too_long(line);
+        given::line_too_long(line);
+        return true;
     };
     if line.len() < n {
-        return;
+        return true;
     }
     let next = commands::answer(&line[0..n]);
     match next {
-        Next::Command => {}
+        Next::Command => true,
         Next::Frame(number, row) => lines::follow(
             from,
             part,
@@ -58,7 +70,8 @@ fn by_arguments<E: Env, R: Read>(env: &E, from: &mut R, part: &mut [u8], line: &
             Next::Frame(number, row),
             false,
         ),
-        Next::End => {}
+        Next::End => true,
+        Next::Unwritten => false,
     }
 }
 

@@ -56,9 +56,10 @@ pub returns-then-not-carried : goal.returns-then-not-carried
 returns-then-not-carried c =
     let a = c.args in
     let at = c.type_byte_at-at in
+    let here = is-addressed a.satellite a.frame.now at.result at.ensures c.address.result c.address.ensures c.if-frame-at-2.false in
     sym (fails-5 a.satellite a.frame.now (is-long a.satellite a.frame.now at.result at.ensures c.if-frame-at.false)
     (sym c.is_right.ensures ∙ c.if-not-is_right.false)
-    (is-addressed a.satellite a.frame.now at.result at.ensures c.address.result c.address.ensures c.if-frame-at-2.false)
+    here
     (sym c.requires.carried_value ∙ c.if-not-carried.true))
 
 pub returns-then-frame-at-3 : goal.returns-then-frame-at-3
@@ -77,13 +78,13 @@ pub returns-else-frame-at-3 : goal.returns-else-frame-at-3
 returns-else-frame-at-3 c =
     let a = c.args in
     let at = c.type_byte_at-at in
-    let has = sym c.has_size_byte.ensures ∙ c.if-has_size_byte.true in
+    let one = sym c.has_size_byte.ensures ∙ c.if-has_size_byte.true in
     let here = size-byte a.satellite a.frame.now at.result at.ensures in
     sym (none-fails a.satellite a.frame.now (is-long a.satellite a.frame.now at.result at.ensures c.if-frame-at.false)
     (sym c.is_right.ensures ∙ c.if-not-is_right.false)
     (is-addressed a.satellite a.frame.now at.result at.ensures c.address.result c.address.ensures c.if-frame-at-2.false)
     (sym c.requires.carried_value ∙ c.if-not-carried.false)
-    (size-agrees a.satellite a.frame.now has (sym here ∙ c.if-frame-at-3.false ∙ c.requires.size_value)))
+    (size-agrees a.satellite a.frame.now one (sym here ∙ c.if-frame-at-3.false ∙ c.requires.size_value)))
 
 pub returns-else-has_size_byte : goal.returns-else-has_size_byte
 returns-else-has_size_byte c =
