@@ -42,15 +42,30 @@ pub(crate) fn follow<R: Read>(
         let letters = got.letters;
         place = got.place;
         next = taken(&line[0..letters], found, next, driven);
-        match next {
-            Next::Command => {}
-            Next::Frame(_number, _row) => {}
-            Next::End => return true,
-            Next::Unwritten => return false,
+        if is_over(next) {
+            return is_written(next);
         }
         lines += 1;
     }
     true
+}
+
+fn is_over(next: Next) -> bool {
+    match next {
+        Next::Command => false,
+        Next::Frame(_number, _row) => false,
+        Next::End => true,
+        Next::Unwritten => true,
+    }
+}
+
+fn is_written(next: Next) -> bool {
+    match next {
+        Next::Command => true,
+        Next::Frame(_number, _row) => true,
+        Next::End => true,
+        Next::Unwritten => false,
+    }
 }
 
 fn taken(line: &[u8], found: Found, next: Next, driven: bool) -> Next {
