@@ -20,8 +20,9 @@ next-asks-nothing-of-stdin laws read dict κs a = λ k m. absurd (not-mem-nil m)
 
 pub next-determined-when-ready : (R laws read dict κs a r s r' s' : _) → next.Post R laws read dict κs a r s
     → next.Post R laws read dict κs a r' s'
-    → ready a.1.0.now a.1.1.1.0 ≡ true → (r ≡ r') × ((s.1.0.now ≡ s'.1.0.now) × (s.1.1.0.now ≡ s'.1.1.0.now))
+    → ready a.1.0.now a.1.1.1.0 ≡ true
+    → (r ≡ r') × ((s.0.now ≡ s'.0.now) × ((s.1.0.now ≡ s'.1.0.now) × (s.1.1.0.now ≡ s'.1.1.0.now)))
 next-determined-when-ready R laws read dict κs a r s r' s' p q h =
-    let f = p.1.1.1 h in
-    let g = q.1.1.1 h in
-    (f.0 ∙ sym g.0, (f.1.1 ∙ sym g.1.1, f.1.0 ∙ sym g.1.0))
+    let f = p.1.1.1.0 h in
+    let g = q.1.1.1.0 h in
+    (f.0 ∙ sym g.0, (p.1.1.1.1 h ∙ sym (q.1.1.1.1 h), (f.1.1 ∙ sym g.1.1, f.1.0 ∙ sym g.1.0)))

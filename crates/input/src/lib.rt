@@ -45,6 +45,7 @@ pub fn next<R: Read>(from: &mut R, part: &mut [u8], line: &mut [u8], place: Plac
         → (result ≡ found (length line.old) part.old place)
         × ((line.new ≡ put·on line.old 0 (line_of part.old place))
         × (part.new ≡ part.old)) }
+    ensures reader_unchanged { ready part.old place ≡ true → from.new ≡ from.old }
 {
     let end = lesser(place.end, part.len());
     let at = lesser(place.at, end);

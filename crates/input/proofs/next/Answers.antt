@@ -1,4 +1,6 @@
 -- The line's end is there, no more come, or it is read on where the contract says no more. Assumes nothing.
+use Rattle.std.proofs.Common.{◌≡◌, true, rules}
+use Rattle.input.specs.Lines.{ready}
 use Rattle.input.proofs.Taken.{searched, not-ready, whole-found, last-found}
 use Rattle.input.proofs.next.Goals as goal
 
@@ -16,9 +18,16 @@ returns-then-place-clause-value g c =
     let by = searched a.part.now a.place c.lesser-at.result c.lesser-end.result c.find.result c.lesser-end.ensures c.lesser-at.ensures f.value f.within in
     λ _. last-found by a.line.now c.text.new.page c.text.ensures.page_after c.last.result c.if-stop-end.false c.last.ensures.value
 
-pub returns-clause-value : goal.returns-clause-value
-returns-clause-value g c =
+pub returns : goal.returns
+returns g c =
     let a = c.args in
     let f = c.find.ensures in
     let by = searched a.part.now a.place c.lesser-at.result c.lesser-end.result c.find.result c.lesser-end.ensures c.lesser-at.ensures f.value f.within in
-    λ h. absurd (not-ready by c.if-stop-end.false c.if-place.false h)
+    let reads : ready a.part.now a.place ≡ true → ⊥ = not-ready by c.if-stop-end.false c.if-place.false in
+    record {
+      letters_in_bounds = search rules;
+      line_len_unchanged = search rules;
+      part_len_unchanged = search rules;
+      value = λ h. absurd (reads h);
+      reader_unchanged = λ h. absurd (reads h);
+    }
