@@ -4,13 +4,13 @@ use mathlib.Core.Path.{◌≡◌, refl, sym, ap, ap₂, ◌∙◌, subst}
 use mathlib.Core.Bool.{Bool, true, false, cond}
 use mathlib.Core.List.{List, [], ◌∷◌, ◌++◌}
 use Prim.Native.Nat.{ℕ, zero, suc, ◌+◌, ◌-◌, ◌*◌, ◌/◌, ◌%◌, ◌^◌, ◌<◌}
-use native.Mathlib.Nat.{mod-one, mod-mod, mod-lt, mod-eq_of_lt, add-mod, mul-add-mod_self_right, div-one, one-mul, pow-suc, zero-lt-suc, zero-add, suc-add, add_comm, not-suc-le-zero, le_of_suc-le-suc}
+use native.Mathlib.Nat.{mod-one, mod-mod, mod-lt, add-mod, mul-add-mod_self_right, div-one, pow-suc, zero-lt-suc, zero-add, suc-add, add_comm, not-suc-le-zero, le_of_suc-le-suc}
 use native.Mathlib.Numerals.{one-add, add-one}
 use native.Mathlib.Omega.{arith}
 use lib.Arith.{digits_div}
 use lib.Dec.{eqb}
 use lib.ListN.{length, length-append}
-use lib.Pow.{pow-add, pow-lt, mod-pow-add, mod-mod-pow, field, shr-shr, high, low}
+use lib.Pow.{pow-add, mod-pow-add, mod-mod-pow, field, shr-shr, high, low}
 use Rattle.bits.specs.Bits.{◌⊕◌, odd, bits, number}
 
 below_two : (m : ℕ) → m < 2 → cond (eqb m 1) 1 0 ≡ m
@@ -83,10 +83,6 @@ unfolding bits
 bits-append zero k n = rw zero-add
 bits-append (suc j) k n =
     ap (λ (w : ℕ). bits w n) (suc-add j k) ∙ ap₂ ◌∷◌ (ap odd (ap (λ (m : ℕ). n / 2 ^ m) (add_comm j k) ∙ sym (shr-shr n k j))) (bits-append j k n)
-
--- 1 shifted within 64 bits
-pub one_shifted : (k : ℕ) → k < 64 → 1 * 2 ^ k % 2 ^ 64 ≡ 2 ^ k
-one_shifted k h = rw one-mul (mod-eq_of_lt (pow-lt h))
 
 pub odd-add : (a b : ℕ) → odd (a + b) ≡ odd a ⊕ odd b
 unfolding odd

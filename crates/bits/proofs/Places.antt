@@ -6,13 +6,9 @@ use Prim.Native.Nat.{ℕ, ◌+◌, ◌-◌, ◌*◌, ◌≤◌}
 use native.Mathlib.Omega.{arith}
 use lib.ListN.{length, take, drop, length-take, length-drop}
 use Rattle.bits.specs.declared.Place.{Place}
-use Rattle.bits.specs.Bits.{field, replaced, is_field, Bytes}
-use Rattle.bits.specs.Located.{Touches, Located, Holds, lead}
+use Rattle.bits.specs.Bits.{field, replaced, Bytes}
+use Rattle.bits.specs.Located.{Touches, lead}
 use Rattle.bits.proofs.Fields.{field-part, replaced-part}
-
-pub is-inside : (at w : ℕ) (s : List ℕ) (p : Place) → Located (length s) at w p → p.inside ≡ is_field at w s
-unfolding is_field
-is-inside at w s p l = l.tells
 
 module _ (at w : ℕ) (s : List ℕ) (p : Place) (t : Touches (length s) at w p) where
   abbrev part : List ℕ
@@ -29,9 +25,6 @@ module _ (at w : ℕ) (s : List ℕ) (p : Place) (t : Touches (length s) at w p)
 
   inner : ahead + w ≤ 8 * (p.end - p.first)
   inner = rw part_length (omega arith)
-
-  pub asked : Holds part w p.rest
-  asked = record { few = rw part_length t.few; narrow = t.narrow; wide = rw part_length t.wide }
 
   pub field-touched : field ahead w part ≡ field at w s
   field-touched = sym (field-part p.first (p.end - p.first) ahead w s inner) ∙ ap (λ (n : ℕ). field n w s) start

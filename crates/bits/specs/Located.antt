@@ -1,5 +1,5 @@
 -- What the crate's own functions ask and tell of the bytes that a field touches. No caller sees it.
-use Rattle.std.specs.Prelude.{ℕ, ◌+◌, ◌-◌, ◌*◌, ◌≤◌, ◌≡◌, true, ◌&&◌, List, leb, length}
+use Rattle.std.specs.Prelude.{ℕ, ◌+◌, ◌-◌, ◌*◌, ◌≤◌, ◌≡◌, List, length}
 use Rattle.bits.specs.declared.Place.{Place}
 
 -- the bytes from first up to end, at most five, hold the field, with `rest` bits behind it
@@ -10,11 +10,6 @@ pub record Touches (len at width : ℕ) (p : Place) : Type 0 where
   pub few : p.end - p.first ≤ 5
   pub wide : width + p.rest ≤ 8 * (p.end - p.first)
   pub start : at ≡ 8 * p.first + (8 * (p.end - p.first) - (width + p.rest))
-
--- whether the field lies inside, and if so where
-pub record Located (len at width : ℕ) (p : Place) : Type 0 where
-  pub tells : p.inside ≡ (leb width 32 && leb (at + width) (8 * len))
-  pub lies : p.inside ≡ true → Touches len at width p
 
 -- a group of at most five bytes holds a field of `width` bits with `rest` bits behind it
 pub record Holds (group : List ℕ) (width rest : ℕ) : Type 0 where

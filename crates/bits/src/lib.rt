@@ -5,14 +5,13 @@
 // they are spread again.
 #![tactic(auto)]
 
-ghost use Rattle.std.specs.Prelude.{◌≡◌, ◌^◌, ◌≤◌, ◌<◌, length};
-ghost use Rattle.bits.specs.Located.{Located, Holds, lead};
+ghost use Rattle.std.specs.Prelude.{◌≡◌, ◌^◌, ◌*◌, ◌+◌, ◌≤◌, ◌<◌, MatchOption, length};
+ghost use Rattle.bits.specs.Located.{Touches, Holds, lead};
 ghost use Rattle.bits.specs.Bits.{bits_of, number, field, replaced, in_bytes, field_answer, replaced_answer};
 
 // The bytes that a field touches, from first up to end, and how many of their bits stand behind the field.
 #[derive(Clone, Copy)]
 struct Place {
-    inside: bool,
     first: usize,
     end: usize,
     rest: usize,
@@ -23,12 +22,8 @@ pub fn read_field(bytes: &[u8], at: usize, width: usize) -> u32
     ensures value { result ≡ field_answer at width bytes.now }
     ensures bytes_unchanged { bytes.exit.now ≡ bytes.entry.now }
 {
-    let p = locate(bytes.len(), at, width);
-    let inside = p.inside;
-    if inside {
-        let first = p.first;
-        let end = p.end;
-        cut(&bytes[first..end], width, p.rest)
+    if let Some(place) = locate(bytes.len(), at, width) {
+        cut(&bytes[place.first..place.end], width, place.rest)
     } else {
         0
     }
@@ -38,37 +33,30 @@ pub fn read_field(bytes: &[u8], at: usize, width: usize) -> u32
 pub fn replace_field(bytes: &mut [u8], at: usize, width: usize, value: u32)
     ensures { bytes.new ≡ replaced_answer at width value bytes.old }
 {
-    let p = locate(bytes.len(), at, width);
-    let inside = p.inside;
-    if inside {
-        let first = p.first;
-        let end = p.end;
-        put(&mut bytes[first..end], width, p.rest, value);
+    if let Some(place) = locate(bytes.len(), at, width) {
+        put(&mut bytes[place.first..place.end], width, place.rest, value);
     }
 }
 
-// Where the field stands in bytes of which there are `len`. No sum here can pass 2^64, whatever `at` is.
-fn locate(len: usize, at: usize, width: usize) -> Place
-    ensures { Located len at width result }
+// Where the field stands in bytes of which there are `len`, if it is inside. No sum here can pass 2^64, whatever `at` is.
+fn locate(len: usize, at: usize, width: usize) -> Option<Place>
+    ensures { MatchOption result (width ≤ 32 → 8 * len < at + width) (λ place. Touches len at width place) }
 {
+    if 32 < width {
+        return None;
+    }
     let first = at / 8;
-    if width <= 32 {
-        let until = at % 8 + width;
-        let touched = (until + 7) / 8;
-        let end = first + touched;
-        Place {
-            inside: end <= len,
+    let until = at % 8 + width;
+    let touched = until.div_ceil(8);
+    let end = first + touched;
+    if end <= len {
+        Some(Place {
             first,
             end,
             rest: 8 * touched - until,
-        }
+        })
     } else {
-        Place {
-            inside: false,
-            first: 0,
-            end: 0,
-            rest: 0,
-        }
+        None
     }
 }
 
@@ -111,10 +99,8 @@ fn gather(group: &[u8]) -> u64
     ensures { result ≡ number (bits_of group.now) }
 {
     let mut sum: u64 = 0;
-    let mut i = 0;
-    while i < group.len() {
-        sum = sum * 256 + group[i] as u64;
-        i += 1;
+    for byte in group {
+        sum = sum * 256 + *byte as u64;
     }
     sum
 }
@@ -124,9 +110,8 @@ fn spread(group: &mut [u8], value: u64)
     ensures { group.new ≡ in_bytes (length group.old) value }
 {
     let mut left = value;
-    let mut i = group.len();
-    while 0 < i {
-        i -= 1;
+    // By number: behind a loop over `iter_mut().rev()` a proof knows the length of `group` and none of its bytes.
+    for i in (0..group.len()).rev() {
         group[i] = (left % 256) as u8;
         left /= 256;
     }

@@ -12,13 +12,16 @@ use lib.ListN.{length, get_or, take, drop, length-append, length-take, length-dr
 use lib.Seq.{take_at, drop_at, take-append_seam, drop-drop, length-take-le}
 use lib.Pow.{pow_mono}
 use borrow.Author.Tests.{lt-ltb, ltb-true, ltb-false}
+use Rattle.std.proofs.Common.{Some}
 use Rattle.satellites.specs.declared.Satellite.{Satellite}
 use Rattle.bits.specs.Bits.{bits, number, bits_of, packed, field, replaced, replaced_answer}
 use Rattle.bits.proofs.Numbers.{length-bits, number-bits, number_lt, bits-of}
 use Rattle.bits.proofs.Bytes.{length-bits_of}
 use Rattle.bits.proofs.Fields.{is_field_lem, length-replaced, length-replaced-answer, bits-replaced}
+use Rattle.layouts.specs.declared.Layout.{Layout}
 use Rattle.layouts.specs.Layouts.{total, width_at, start_at, layout_of, entry_of}
 use Rattle.layouts.specs.Rules.{Allowed}
+use Rattle.layouts.proofs.Laid.{some-layout}
 use Rattle.bodies.specs.Bodies.{told, tiled, fitting, widths_in, values_from, laid_from, filled}
 
 -- ---- values and bits
@@ -143,8 +146,8 @@ filled-enough (v ∷ vs) [] h = absurd (omega arith)
 filled-enough (v ∷ vs) (x ∷ room) h = ap (λ (l : List ℕ). v ∷ l) (filled-enough vs room (omega arith))
 
 -- the widths that callers are told are those of the table
-pub widths-in : (s : Satellite) (t : ℕ) → widths_in (layout_of s t) ≡ (entry_of s t).widths
-widths-in s t = take-append_seam (entry_of s t).widths _
+pub widths-in : (s : Satellite) (t : ℕ) (l : Layout) → layout_of s t ≡ Some l → widths_in l ≡ (entry_of s t).widths
+widths-in s t l told = ap widths_in (some-layout s t l told).1 ∙ take-append_seam (entry_of s t).widths _
 
 later : (w : ℕ) (ws : List ℕ) → Allowed (w ∷ ws) → Allowed ws
 later w ws a k h = a (suc k) (omega arith)

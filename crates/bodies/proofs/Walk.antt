@@ -1,79 +1,76 @@
--- The walk over a layout, from field k on: what the fields that are left lead to, one field at a time. Of n fields, as far
--- as there are widths.
+-- The walk over the widths of a layout's fields, from field k on: what the fields that are left lead to, one field at a time.
 -- Assumes nothing.
-use Prim.Native.Nat.{ℕ, zero, suc, ◌+◌, ◌^◌, ◌≤◌, ◌<◌}
-use native.Mathlib.Nat.{le_refl}
+use Prim.Native.Nat.{ℕ, suc, ◌+◌, ◌^◌, ◌≤◌, ◌<◌, min}
+use native.Mathlib.Nat.{le_refl, add-zero}
 use native.Mathlib.Numerals.{add-one}
 use native.Mathlib.Omega.{arith}
-use mathlib.Core.Path.{◌≡◌, refl, sym, ◌∙◌, ap, ap₂}
-use mathlib.Core.Bool.{true, false, cond}
+use mathlib.Core.Path.{◌≡◌, refl, sym, ◌∙◌, ap}
+use mathlib.Core.Bool.{Bool, true, false, cond, not}
 use mathlib.Core.List.{List, [], ◌∷◌, ◌++◌, append-nil}
 use lib.Dec.{ltb}
-use lib.ListN.{length, get_or, take, drop, set, length-take, take-append-drop, drop_of_length-le}
-use lib.Seq.{drop-cons, drop-drop, get_or-take, take-suc-set, drop-set-lt, append_snoc, take_all}
+use lib.ListN.{length, get_or, take, drop, set, take-append-drop, drop_of_length-le}
+use lib.Seq.{drop-cons, drop-drop, take-suc-set, drop-set-lt, append_snoc, take_all}
+use lib.Pow.{pow_mono}
+use borrow.Author.Tests.{lt-ltb, le-ltb, ltb-true, ltb-false}
+use Rattle.std.proofs.Common.{Some, None}
+use Rattle.std.proofs.lemmas.List.{drop_more, get_or-drop}
+use Rattle.std.specs.List.{position, position_or_len, zip}
+use Rattle.std.specs.Option.{unwrap_or}
 use Rattle.bits.specs.Bits.{field_answer, replaced_answer}
 use Rattle.bodies.specs.Bodies.{fitting, values_from, laid_from, filled}
 
--- the fields that are left, as long as there are some
-pub next_field : (n k : ℕ) (ws : List ℕ) → k < n → k < length ws → drop k (take n ws) ≡ get_or ws k 0 ∷ drop (k + 1) (take n ws)
-next_field n k ws h inside =
-    drop-cons (take n ws) k 0 (rw length-take (omega arith))
-    ∙ ap₂ (λ (w j : ℕ). w ∷ drop j (take n ws)) (get_or-take n ws k 0 h) (sym (add-one k))
-
--- none are left past the last, or past the last width
-pub no_field : (n k : ℕ) (ws : List ℕ) → n ≤ k → drop k (take n ws) ≡ []
-no_field n k ws h = drop_of_length-le (take n ws) {i = k} (rw length-take (omega arith))
-
-pub no-width : (n k : ℕ) (ws : List ℕ) → length ws ≤ k → drop k (take n ws) ≡ []
-no-width n k ws h = drop_of_length-le (take n ws) {i = k} (rw length-take (omega arith))
-
--- the first of the values that are left
-first-left : (k : ℕ) (vs : List ℕ) → get_or (drop k vs) 0 0 ≡ get_or vs k 0
-first-left zero vs = refl
-first-left (suc k) [] = refl
-first-left (suc k) (v ∷ vs) = first-left k vs
-
 -- ---- how many fit
 
-fitting-next : (k w : ℕ) (ws vs : List ℕ)
-    → fitting (w ∷ ws) (drop k vs) ≡ cond (ltb (get_or vs k 0) (2 ^ w)) (suc (fitting ws (drop (k + 1) vs))) 0
+-- values that are missing fit
+fitting-none : (ws : List ℕ) → fitting ws [] ≡ length ws
 unfolding fitting
-fitting-next k w ws vs = rw (first-left k vs, drop-drop 1 k vs)
+fitting-none [] = refl
+fitting-none (w ∷ ws) =
+    let some : 0 < 2 ^ w = pow_mono {i = 0} (omega arith) in
+    rw (lt-ltb 0 (2 ^ w) some) (ap suc (fitting-none ws))
 
-module _ (n k : ℕ) (ws vs : List ℕ) where
-  module _ (h : k < n) (inside : k < length ws) where
-    pub fitting-one : ltb (get_or vs k 0) (2 ^ get_or ws k 0) ≡ true
-        → k + 1 + fitting (drop (k + 1) (take n ws)) (drop (k + 1) vs) ≡ k + fitting (drop k (take n ws)) (drop k vs)
-    fitting-one e =
-        rw (next_field n k ws h inside, fitting-next k (get_or ws k 0) (drop (k + 1) (take n ws)) vs, e) (omega arith)
+-- a width and a value that does not fit it
+abbrev pub exceeds : ℕ × ℕ → Bool
+exceeds p = not (ltb p.1 (2 ^ p.0))
 
-    pub fitting-no-more : ltb (get_or vs k 0) (2 ^ get_or ws k 0) ≡ false → k ≡ k + fitting (drop k (take n ws)) (drop k vs)
-    fitting-no-more e =
-        rw (next_field n k ws h inside, fitting-next k (get_or ws k 0) (drop (k + 1) (take n ws)) vs, e) (omega arith)
+-- the place of the first that does not fit, or else how many fields there are
+pub fitting-position : (ws vs : List ℕ) → unwrap_or (position exceeds (zip ws vs)) (length ws) ≡ fitting ws vs
+unfolding fitting
+fitting-position [] vs = refl
+fitting-position (w ∷ ws) [] = sym (fitting-none (w ∷ ws))
+fitting-position (w ∷ ws) (v ∷ vs) =
+    go (ltb v (2 ^ w)) (position_or_len exceeds (zip ws vs)) (length (zip ws vs)) (fitting-position ws vs)
+  where
+    further : (at n : ℕ) (b : Bool) → ltb at n ≡ b → unwrap_or (cond b (Some at) None) (length ws) ≡ fitting ws vs
+        → unwrap_or (cond (ltb (1 + at) (suc n)) (Some (1 + at)) None) (suc (length ws)) ≡ suc (fitting ws vs)
+    further at n true e h = rw (lt-ltb (1 + at) (suc n) (omega (arith, ltb-true at n e))) (omega (arith, h))
+    further at n false e h = rw (le-ltb (1 + at) (suc n) (omega (arith, ltb-false at n e))) (omega (arith, h))
 
-  pub fitting-all : drop k (take n ws) ≡ [] → k ≡ k + fitting (drop k (take n ws)) (drop k vs)
-  unfolding fitting
-  fitting-all e = rw e (omega arith)
+    go : (b : Bool) (at n : ℕ) → unwrap_or (cond (ltb at n) (Some at) None) (length ws) ≡ fitting ws vs
+        → unwrap_or (cond (ltb (cond (not (not b)) (1 + at) 0) (suc n)) (Some (cond (not (not b)) (1 + at) 0)) None) (suc (length ws))
+        ≡ cond b (suc (fitting ws vs)) 0
+    go true at n h = further at n (ltb at n) refl h
+    go false at n h = rw (lt-ltb 0 (suc n) (omega arith))
 
 -- ---- writing
 
 laid_next : (at k w : ℕ) (ws vs body : List ℕ)
     → laid_from at (w ∷ ws) (drop k vs) body ≡ laid_from (at + w) ws (drop (k + 1) vs) (replaced_answer at w (get_or vs k 0) body)
 unfolding laid_from
-laid_next at k w ws vs body = rw (first-left k vs, drop-drop 1 k vs)
+laid_next at k w ws vs body = rw (get_or-drop k vs 0 0, add-zero k, drop-drop 1 k vs)
 
-module _ (at k n : ℕ) (ws vs body : List ℕ) where
-  pub laid_one : k < n → k < length ws
-      → laid_from (at + get_or ws k 0) (drop (k + 1) (take n ws)) (drop (k + 1) vs) (replaced_answer at (get_or ws k 0) (get_or vs k 0) body)
-      ≡ laid_from at (drop k (take n ws)) (drop k vs) body
-  laid_one h inside =
+module _ (at k : ℕ) (ws vs body : List ℕ) where
+  pub laid_one : k < length ws
+      → laid_from (at + get_or ws k 0) (drop (k + 1) ws) (drop (k + 1) vs) (replaced_answer at (get_or ws k 0) (get_or vs k 0) body)
+      ≡ laid_from at (drop k ws) (drop k vs) body
+  laid_one inside =
       sym
-      (ap (λ (l : List ℕ). laid_from at l (drop k vs) body) (next_field n k ws h inside)
-      ∙ laid_next at k (get_or ws k 0) (drop (k + 1) (take n ws)) vs body)
+      (ap (λ (l : List ℕ). laid_from at l (drop k vs) body) (drop_more ws k 0 inside)
+      ∙ laid_next at k (get_or ws k 0) (drop (k + 1) ws) vs body)
 
-  pub laid-all : drop k (take n ws) ≡ [] → body ≡ laid_from at (drop k (take n ws)) (drop k vs) body
+  pub laid-all : length ws ≤ k → body ≡ laid_from at (drop k ws) (drop k vs) body
   unfolding laid_from
-  laid-all e = rw e
+  laid-all past = rw (drop_of_length-le ws past)
 
 -- ---- reading
 
@@ -87,26 +84,34 @@ filled_next at k w ws body room h =
     rw (add-one k, take-suc-set room k v h, drop-set-lt (suc k) room k v (le_refl (suc k)), drop-cons room k 0 h)
     (append_snoc (take k room) v (filled (values_from (at + w) ws body) (drop (suc k) room)))
 
-module _ (at k n : ℕ) (ws body room : List ℕ) where
-  -- a place is filled
-  pub filled-one : k < n → k < length ws → k < length room
-      → let more = set room k (field_answer at (get_or ws k 0) body) in
-      take (k + 1) more ++ filled (values_from (at + get_or ws k 0) (drop (k + 1) (take n ws)) body) (drop (k + 1) more)
-      ≡ take k room ++ filled (values_from at (drop k (take n ws)) body) (drop k room)
-  filled-one h inside there =
-      filled_next at k (get_or ws k 0) (drop (k + 1) (take n ws)) body room there
-      ∙ ap (λ (l : List ℕ). take k room ++ filled (values_from at l body) (drop k room)) (sym (next_field n k ws h inside))
-
-  -- no value is left
-  pub filled-all : drop k (take n ws) ≡ [] → room ≡ take k room ++ filled (values_from at (drop k (take n ws)) body) (drop k room)
-  unfolding filled values_from
-  filled-all e = rw e (sym (take-append-drop k room))
-
 filled_none : (vs : List ℕ) → filled vs [] ≡ []
 unfolding filled
 filled_none [] = refl
 filled_none (v ∷ vs) = refl
 
--- no place is left
-pub filled-full : (vs room : List ℕ) (k : ℕ) → length room ≤ k → take k room ++ filled vs (drop k room) ≡ room
-filled-full vs room k h = rw (drop_of_length-le room h, filled_none vs, take_all k room h) (append-nil room)
+module _ (at k : ℕ) (ws body room : List ℕ) where
+  -- a place is filled
+  pub filled-one : k < length ws → k < length room
+      → let more = set room k (field_answer at (get_or ws k 0) body) in
+      take (k + 1) more ++ filled (values_from (at + get_or ws k 0) (drop (k + 1) ws) body) (drop (k + 1) more)
+      ≡ take k room ++ filled (values_from at (drop k ws) body) (drop k room)
+  filled-one inside there =
+      filled_next at k (get_or ws k 0) (drop (k + 1) ws) body room there
+      ∙ ap (λ (l : List ℕ). take k room ++ filled (values_from at l body) (drop k room)) (sym (drop_more ws k 0 inside))
+
+  -- no value is left
+  filled-all : length ws ≤ k → room ≡ take k room ++ filled (values_from at (drop k ws) body) (drop k room)
+  unfolding filled values_from
+  filled-all past = rw (drop_of_length-le ws past) (sym (take-append-drop k room))
+
+  -- no place is left
+  filled-full : length room ≤ k → room ≡ take k room ++ filled (values_from at (drop k ws) body) (drop k room)
+  filled-full past =
+      rw (drop_of_length-le room past, filled_none (values_from at (drop k ws) body), take_all k room past) (sym (append-nil room))
+
+  pub filled-past : min (length ws) (length room) ≤ k → room ≡ take k room ++ filled (values_from at (drop k ws) body) (drop k room)
+  filled-past past = go (ltb (length ws) (length room)) refl
+    where
+      go : (b : Bool) → ltb (length ws) (length room) ≡ b → room ≡ take k room ++ filled (values_from at (drop k ws) body) (drop k room)
+      go true e = filled-all (omega (arith, ltb-true (length ws) (length room) e))
+      go false e = filled-full (omega (arith, ltb-false (length ws) (length room) e))

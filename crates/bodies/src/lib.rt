@@ -15,41 +15,28 @@ pub fn read(layout: Layout, body: &[u8], room: &mut [u32])
     ensures room_after { room.new ≡ filled (values_from 0 (widths_in layout) body.now) room.old }
     ensures body_unchanged { body.exit.now ≡ body.entry.now }
 {
-    let widths = layout.widths;
-    let mut at: usize = 0;
-    let mut k: usize = 0;
-    while k < layout.fields {
-        if k == MOST_FIELDS {
-            return;
-        }
-        if k == room.len() {
-            return;
-        }
-        let width = widths[k] as usize;
-        room[k] = bits::read_field(body, at, width);
-        at += width;
-        k += 1;
+    let widths = widths(&layout);
+    let count = widths.len().min(room.len());
+    let mut at = 0;
+    // By number: behind a loop over `room.iter_mut().zip(..)` a proof knows the room's length and none of its values.
+    for (k, &width) in widths[..count].iter().enumerate() {
+        room[k] = bits::read_field(body, at, width as usize);
+        at += width as usize;
     }
 }
 
 // How many values fit their fields, from the first on: the lowest field number that does not fit, or the field count.
-// A value that is missing counts as 0.
+// A value that is missing counts as 0, which fits every field.
 pub fn fitting(layout: Layout, values: &[u32]) -> usize
     ensures value { result ≡ fitting (widths_in layout) values.now }
     ensures values_unchanged { values.exit.now ≡ values.entry.now }
 {
-    let widths = layout.widths;
-    let mut k: usize = 0;
-    while k < layout.fields {
-        if k == MOST_FIELDS {
-            return k;
-        }
-        if !fits(value_at(values, k), widths[k] as usize) {
-            return k;
-        }
-        k += 1;
-    }
-    k
+    let widths = widths(&layout);
+    widths
+        .iter()
+        .zip(values)
+        .position(|(&width, &value)| !fits(value, width as usize))
+        .unwrap_or(widths.len())
 }
 
 // Writes the values into the body's fields, of each as many low bits as its field has. A value that is missing counts as
@@ -58,34 +45,25 @@ pub fn write(layout: Layout, values: &[u32], body: &mut [u8])
     ensures body_after { body.new ≡ laid_from 0 (widths_in layout) values.now body.old }
     ensures values_unchanged { values.exit.now ≡ values.entry.now }
 {
-    let widths = layout.widths;
-    let mut at: usize = 0;
-    let mut k: usize = 0;
-    while k < layout.fields {
-        if k == MOST_FIELDS {
-            return;
-        }
-        let width = widths[k] as usize;
-        bits::replace_field(body, at, width, value_at(values, k));
-        at += width;
-        k += 1;
+    let mut at = 0;
+    let widths = widths(&layout);
+    for (k, &width) in widths.iter().enumerate() {
+        let value = values.get(k).copied().unwrap_or(0);
+        bits::replace_field(body, at, width as usize, value);
+        at += width as usize;
     }
 }
 
-// The value of a field, 0 where it is missing.
-fn value_at(values: &[u32], k: usize) -> u32
-    ensures { result ≡ get_or values.now k 0 }
+// The widths of the fields that a layout tells of.
+fn widths(layout: &Layout) -> &[u8]
+    ensures { result.now ≡ widths_in layout.now }
 {
-    if k < values.len() { values[k] } else { 0 }
+    &layout.widths[..layout.fields.min(MOST_FIELDS)]
 }
 
 // Whether a value fits so many bits. In 64 bits, since a field can have 32.
 pub fn fits(value: u32, width: usize) -> bool
     ensures { result ≡ ltb value (2 ^ width) }
 {
-    if width < 32 {
-        (value as u64) < 1u64 << width
-    } else {
-        true
-    }
+    width >= 32 || (value as u64) < 1u64 << width
 }

@@ -1,82 +1,65 @@
 // The calls on the leaves: checksum, scrambler, bit fields, and what is a satellite's own.
-use crate::{calls, page};
-use satellites::{Known, Satellite};
+use crate::call;
+use crate::calls::{self, MOST_BYTES};
+use crate::page::{Changed, Page};
+use satellites::Satellite;
+use std::fmt::Write;
 
 // The type whose fields are temperatures alone, but for a clock.
 pub(crate) const TEMPERATURES: u32 = 2;
 
-// Bytes of the sent bits that a scrambler starts with.
-const START_BYTES: usize = 4;
-
-pub(crate) fn sum(page: &mut [u8], bytes: &[u8]) -> usize {
-    let sum = checksum::of(bytes) as u32;
-    page::put_low_bytes(page, 0, sum, 2)
+pub(crate) fn sum(page: &mut Page, text: &[u8]) -> Option<()> {
+    let mut bytes = [0; MOST_BYTES];
+    let sum = checksum::of(call::bytes(text, &mut bytes)?);
+    write!(page, "{sum:04X}").ok()
 }
 
-// Near and far, and the start ahead of the bytes.
-pub(crate) fn scramble(page: &mut [u8], given: [u32; 3], bytes: &mut [u8], before: &[u8]) -> usize {
-    if bytes.len() < START_BYTES {
-        return calls::not_understood(page);
-    }
-    let start = bits::read_field(bytes, 0, 32);
-    let sent = scrambler::scramble(given[0], given[1], start, &mut bytes[START_BYTES..]);
-    put_passed(page, sent, bytes, before)
-}
-
-pub(crate) fn unscramble(
-    page: &mut [u8],
+// Near and far, and the start, four bytes, ahead of the bytes that pass.
+pub(crate) fn passed<F: Fn(u32, u32, u32, &mut [u8]) -> u32>(
+    page: &mut Page,
     given: [u32; 3],
-    bytes: &mut [u8],
-    before: &[u8],
-) -> usize {
-    if bytes.len() < START_BYTES {
-        return calls::not_understood(page);
-    }
-    let start = bits::read_field(bytes, 0, 32);
-    let sent = scrambler::unscramble(given[0], given[1], start, &mut bytes[START_BYTES..]);
-    put_passed(page, sent, bytes, before)
-}
-
-fn put_passed(page: &mut [u8], sent: u32, bytes: &[u8], before: &[u8]) -> usize {
-    let answer = page::put_low_bytes(page, 0, sent, 0);
-    let end = pages::text(page, answer, b" ");
-    if bytes == before {
-        return pages::text(page, end, b"=");
-    }
-    page::put_behind(page, end, bytes, START_BYTES)
+    text: &[u8],
+    pass: F,
+) -> Option<()>
+    requires { F.IsAlwaysCallable pass }
+{
+    let [near, far, _] = given;
+    let mut bytes = [0; MOST_BYTES];
+    let (start, bytes) = call::bytes(text, &mut bytes)?.split_first_chunk_mut::<4>()?;
+    let mut before = [0; MOST_BYTES];
+    let before = calls::copied(bytes, &mut before)?;
+    let sent = pass(near, far, u32::from_be_bytes(*start), bytes);
+    let left = Changed { bytes, before };
+    write!(page, "{sent:08X} {left}").ok()
 }
 
 // First bit and width.
-pub(crate) fn field(page: &mut [u8], given: [u32; 3], bytes: &[u8]) -> usize {
-    let value = bits::read_field(bytes, given[0] as usize, given[1] as usize);
-    page::put_number(page, 0, value as u64)
+pub(crate) fn field(page: &mut Page, [start, width, _]: [u32; 3], text: &[u8]) -> Option<()> {
+    let mut bytes = [0; MOST_BYTES];
+    let bytes = call::bytes(text, &mut bytes)?;
+    let value = bits::read_field(bytes, start as usize, width as usize);
+    write!(page, "{value}").ok()
 }
 
 // First bit, width and value.
-pub(crate) fn replace(page: &mut [u8], given: [u32; 3], bytes: &mut [u8], before: &[u8]) -> usize {
-    bits::replace_field(bytes, given[0] as usize, given[1] as usize, given[2]);
-    page::put_changed(page, 0, bytes, before)
+pub(crate) fn replace(page: &mut Page, [start, width, value]: [u32; 3], text: &[u8]) -> Option<()> {
+    let mut bytes = [0; MOST_BYTES];
+    let bytes = call::bytes(text, &mut bytes)?;
+    let mut before = [0; MOST_BYTES];
+    let before = calls::copied(bytes, &mut before)?;
+    bits::replace_field(bytes, start as usize, width as usize, value);
+    let left = Changed { bytes, before };
+    write!(page, "{left}").ok()
 }
 
-pub(crate) fn satellite(page: &mut [u8], numbers: &[u32]) -> usize {
-    if numbers.len() != 1 {
-        return calls::not_understood(page);
-    }
-    match Satellite::from_number(numbers[0]) {
-        Known::Is(satellite) => put_satellite(page, satellite),
-        Known::Unknown => pages::text(page, 0, b"none"),
-    }
-}
-
-fn put_satellite(page: &mut [u8], satellite: Satellite) -> usize {
-    let first = layouts::of(satellite, TEMPERATURES).first_behind_clock();
-    let address = page::put_number(page, 0, satellite.address() as u64);
-    let training = page::put_next(page, address, satellite.training() as u64);
-    let size = page::put_next(page, training, size_bytes(satellite));
-    let type_byte = page::put_next(page, size, satellite.type_byte_at() as u64);
-    page::put_next(page, type_byte, first as u64)
-}
-
-fn size_bytes(satellite: Satellite) -> u64 {
-    if satellite.has_size_byte() { 1 } else { 0 }
+pub(crate) fn satellite(page: &mut Page, text: &[u8]) -> Option<()> {
+    let Some(satellite) = Satellite::from_number(words::decimal(text)?) else {
+        return page.write_str("none").ok();
+    };
+    let address = satellite.address();
+    let training = satellite.training();
+    let size = satellite.has_size_byte() as u32;
+    let type_byte = satellite.type_byte_at();
+    let first = layouts::of(satellite, TEMPERATURES)?.first_behind_clock();
+    write!(page, "{address} {training} {size} {type_byte} {first}").ok()
 }

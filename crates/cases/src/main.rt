@@ -35,60 +35,47 @@ mod degrees;
 mod leaves;
 mod line;
 mod marks;
-mod names;
 mod page;
 
-use input::Place;
+use input::{Input, TooLong};
 use line::Tally;
-use std::io::Read;
+use std::io;
+use std::io::{Read, Write};
 use std::process::ExitCode;
+
+// So many bytes are asked for at once: no less than a pipe holds.
+const PART: usize = 65_536;
+
+// A line has no more bytes.
+const MOST_LETTERS: usize = 4096;
 
 // No input has so many lines.
 const MOST_LINES: u64 = 0xFFFF_FFFF_FFFF;
 
 fn main(rt: HostRuntime) -> ExitCode {
-    let mut stdin = rt.stdin();
-    let mut part = io::large_buffer();
-    let mut line = io::buffer();
-    let none = Tally {
-        cases: 0,
-        differ: 0,
-        open: true,
-    };
-    let start = Place {
-        at: 0,
-        end: 0,
-        ended: false,
-    };
-    if compare(&mut stdin, &mut part, &mut line, none, start) {
-        return ExitCode::SUCCESS;
+    match compare(&mut rt.stdin(), &mut rt.stdout()) {
+        Ok(()) => ExitCode::SUCCESS,
+        Err(_) => ExitCode::FAILURE,
     }
-    ExitCode::FAILURE
 }
 
-// The answer is false where it stops since the end of what is said of a case could not be written.
-fn compare<R: Read>(
-    from: &mut R,
-    part: &mut [u8],
-    line: &mut [u8],
-    tally: Tally,
-    place: Place,
-) -> bool {
-    let mut tally = tally;
-    let mut place = place;
+// Stops where what is said of a case cannot be written: whoever reads it has gone.
+fn compare<R: Read, W: Write>(from: &mut R, to: &mut W) -> io::Result<()> {
+    let mut part = [0; PART];
+    let mut input = Input::new(&mut part);
+    let mut line = [0; MOST_LETTERS];
+    let mut tally = Tally::default();
     for number in 1..MOST_LINES {
-        let next = input::next(from, part, line, place);
-        let found = next.found;
-        let letters = next.letters;
-        place = next.place;
-        if line::is_end(found) {
-            line::print_tally(tally);
-            return true;
-        }
-        tally = line::weighed(&line[0..letters], found, number, tally);
-        if !tally.open {
-            return false;
-        }
+        let Some(found) = input.next(from, &mut line) else {
+            // The last line may be missing.
+            let _ = write!(to, "{tally}\n");
+            return Ok(());
+        };
+        let verdict = match found {
+            Ok(letters) => line::judged(&line[..letters], number, to)?,
+            Err(TooLong) => line::too_long(number, to)?,
+        };
+        tally.count(verdict);
     }
-    true
+    Ok(())
 }

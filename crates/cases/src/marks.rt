@@ -1,55 +1,65 @@
 // The marks that a room and an output hold before a call, another in each place: so one sees what the call filled, and that all else
 // stayed where it was.
-ghost use Rattle.std.specs.Prelude.{◌≤◌, length};
+use crate::page::Pairs;
+use std::fmt;
 
-fn of_place(k: usize) -> u32 {
-    4_000_000_000 + (k % 65536) as u32
+// What is lent: places of a room, or bytes of an output.
+pub(crate) trait Mark: Copy + PartialEq {
+    // The mark of place k.
+    fn of(k: usize) -> Self;
+
+    // Writes what a call filled.
+    fn write_filled<W: fmt::Write>(filled: &[Self], f: &mut fmt::Formatter<W>) -> fmt::Result;
+}
+
+impl Mark for u32 {
+    fn of(k: usize) -> u32 {
+        4_000_000_000 + (k % 65536) as u32
+    }
+
+    fn write_filled<W: fmt::Write>(filled: &[u32], f: &mut fmt::Formatter<W>) -> fmt::Result {
+        let [first, others @ ..] = filled else {
+            return Ok(());
+        };
+        write!(f, "{first}")?;
+        for value in others {
+            write!(f, ",{value}")?;
+        }
+        Ok(())
+    }
 }
 
 // Neither training nor sync nor a type byte has this value at its place.
-fn of_byte(k: usize) -> u8 {
-    208 + (k % 47) as u8
-}
+impl Mark for u8 {
+    fn of(k: usize) -> u8 {
+        208 + (k % 47) as u8
+    }
 
-pub(crate) fn put_on_places(room: &mut [u32]) {
-    let mut k = 0;
-    while k < room.len() {
-        room[k] = of_place(k);
-        k += 1;
+    fn write_filled<W: fmt::Write>(filled: &[u8], f: &mut fmt::Formatter<W>) -> fmt::Result {
+        write!(f, "{}", Pairs(filled))
     }
 }
 
-pub(crate) fn put_on_bytes(output: &mut [u8]) {
-    let mut k = 0;
-    while k < output.len() {
-        output[k] = of_byte(k);
-        k += 1;
+pub(crate) fn put<M: Mark>(lent: &mut [M]) {
+    for (k, place) in lent.iter_mut().enumerate() {
+        *place = M::of(k);
     }
 }
 
-// How many places there are up to the last one that does not hold its mark.
-pub(crate) fn places_used(room: &[u32]) -> usize
-    ensures { result ≤ length room.now }
-{
-    let mut n = room.len();
-    while 0 < n {
-        if room[n - 1] != of_place(n - 1) {
-            return n;
-        }
-        n -= 1;
-    }
-    0
-}
+// What a call left of what is lent: all up to the last place that does not hold its mark, and how many follow it.
+#[derive(Clone, Copy)]
+pub(crate) struct Left<'a, M>(pub &'a [M]);
 
-pub(crate) fn bytes_used(output: &[u8]) -> usize
-    ensures { result ≤ length output.now }
-{
-    let mut n = output.len();
-    while 0 < n {
-        if output[n - 1] != of_byte(n - 1) {
-            return n;
-        }
-        n -= 1;
+impl<M: Mark> fmt::Display for Left<'_, M> {
+    fn fmt<W: fmt::Write>(&self, f: &mut fmt::Formatter<W>) -> fmt::Result {
+        let kept = self
+            .0
+            .iter()
+            .enumerate()
+            .rev()
+            .take_while(|(k, mark)| **mark == M::of(*k))
+            .count();
+        M::write_filled(&self.0[..self.0.len() - kept], f)?;
+        write!(f, "+{kept}")
     }
-    0
 }

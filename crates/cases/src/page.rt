@@ -1,119 +1,80 @@
-// The parts of an answer, on a page: each function puts one at `at` and answers where it ends. Of what does not fit, the front is put.
-use crate::marks;
+// What an answer is written on, and how its parts are.
+ghost use Rattle.std.specs.Prelude.{◌≤◌, length};
 
-pub(crate) fn put_number(page: &mut [u8], at: usize, n: u64) -> usize {
-    let mut text = [0u8; 20];
-    let k = io::decimal(n, &mut text);
-    pages::text(page, at, &text[..k])
+use std::fmt;
+
+// An answer has no more letters.
+const MOST: usize = 4096;
+
+// Of what does not fit, the front is put.
+// No `String`: it would bring in an error of memory, for which no call has an answer, and would still be cut at this length.
+#[derive(Drop)]
+pub(crate) struct Page {
+    text: [u8; MOST],
+    end: usize,
+    ghost within: { end ≤ length text },
 }
 
-// The same with a blank ahead.
-pub(crate) fn put_next(page: &mut [u8], at: usize, n: u64) -> usize {
-    let behind = pages::text(page, at, b" ");
-    put_number(page, behind, n)
-}
-
-pub(crate) fn put_bytes(page: &mut [u8], at: usize, bytes: &[u8]) -> usize {
-    let mut end = at;
-    let mut i = 0;
-    while i < bytes.len() {
-        end = put_byte(page, end, bytes[i]);
-        i += 1;
+impl Page {
+    pub(crate) fn new() -> Page {
+        Page {
+            text: [0; MOST],
+            end: 0,
+        }
     }
-    end
+
+    pub(crate) fn written(&self) -> &[u8] {
+        &self.text[..self.end]
+    }
+}
+
+impl fmt::Write for Page {
+    fn write_str(&mut self, text: &str) -> fmt::Result {
+        self.end = pages::text(&mut self.text, self.end, text.as_bytes());
+        Ok(())
+    }
+}
+
+// Bytes, as pairs of digits.
+#[derive(Clone, Copy)]
+pub(crate) struct Pairs<'a>(pub &'a [u8]);
+
+impl fmt::Display for Pairs<'_> {
+    fn fmt<W: fmt::Write>(&self, f: &mut fmt::Formatter<W>) -> fmt::Result {
+        for byte in self.0 {
+            write!(f, "{byte:02X}")?;
+        }
+        Ok(())
+    }
 }
 
 // What a call left of bytes that it may change: `=` where they stayed.
-pub(crate) fn put_changed(page: &mut [u8], at: usize, bytes: &[u8], before: &[u8]) -> usize {
-    if bytes == before {
-        return pages::text(page, at, b"=");
-    }
-    put_bytes(page, at, bytes)
+#[derive(Clone, Copy)]
+pub(crate) struct Changed<'a> {
+    pub bytes: &'a [u8],
+    pub before: &'a [u8],
 }
 
-fn put_byte(page: &mut [u8], at: usize, b: u8) -> usize {
-    let text = [digit(b / 16), digit(b % 16)];
-    pages::text(page, at, &text)
-}
-
-fn digit(d: u8) -> u8 {
-    if d < 10 {
-        b'0' + d
-    } else {
-        b'A' + (d - 10) % 6
+impl fmt::Display for Changed<'_> {
+    fn fmt<W: fmt::Write>(&self, f: &mut fmt::Formatter<W>) -> fmt::Result {
+        if self.bytes == self.before {
+            return write!(f, "=");
+        }
+        write!(f, "{}", Pairs(self.bytes))
     }
 }
 
-// The bits of a float, with a blank ahead.
-pub(crate) fn put_float(page: &mut [u8], at: usize, x: f32) -> usize {
-    let behind = pages::text(page, at, b" ");
-    put_low_bytes(page, behind, pattern(x), 0)
-}
+// The bits of a float. For all that is not a number one pattern is put, which no right answer has.
+#[derive(Clone, Copy)]
+pub(crate) struct Pattern(pub f32);
 
-// The four bytes of a number, the highest first, from number `first` on.
-pub(crate) fn put_low_bytes(page: &mut [u8], at: usize, n: u32, first: usize) -> usize {
-    let bytes = [
-        byte_of(n / 0x100_0000),
-        byte_of(n / 0x1_0000),
-        byte_of(n / 256),
-        byte_of(n),
-    ];
-    put_behind(page, at, &bytes, first)
-}
-
-// The bytes from number `first` on.
-pub(crate) fn put_behind(page: &mut [u8], at: usize, bytes: &[u8], first: usize) -> usize {
-    if bytes.len() < first {
-        return at;
+impl fmt::Display for Pattern {
+    fn fmt<W: fmt::Write>(&self, f: &mut fmt::Formatter<W>) -> fmt::Result {
+        let bits = if self.0.is_nan() {
+            0x7FC0_0000
+        } else {
+            self.0.to_bits()
+        };
+        write!(f, "{bits:08X}")
     }
-    put_bytes(page, at, &bytes[first..])
-}
-
-fn byte_of(n: u32) -> u8 {
-    (n % 256) as u8
-}
-
-// For all that is not a number one pattern is put, which no right answer has.
-fn pattern(x: f32) -> u32 {
-    if x == x { f32::to_bits(x) } else { 0x7FC0_0000 }
-}
-
-// What a room holds, with a blank ahead: the places up to the last one that does not hold its mark, and how many follow it.
-pub(crate) fn put_room(page: &mut [u8], at: usize, room: &[u32]) -> usize {
-    let n = marks::places_used(room);
-    let behind = pages::text(page, at, b" ");
-    let end = put_list(page, behind, &room[0..n]);
-    put_kept(page, end, room.len() - n)
-}
-
-fn put_list(page: &mut [u8], at: usize, values: &[u32]) -> usize {
-    let mut end = at;
-    let mut i = 0;
-    while i < values.len() {
-        end = put_item(page, end, i, values[i]);
-        i += 1;
-    }
-    end
-}
-
-// Item number i of a list.
-fn put_item(page: &mut [u8], at: usize, i: usize, value: u32) -> usize {
-    if i == 0 {
-        return put_number(page, at, value as u64);
-    }
-    let behind = pages::text(page, at, b",");
-    put_number(page, behind, value as u64)
-}
-
-// What an output holds, likewise.
-pub(crate) fn put_output(page: &mut [u8], at: usize, output: &[u8]) -> usize {
-    let n = marks::bytes_used(output);
-    let behind = pages::text(page, at, b" ");
-    let end = put_bytes(page, behind, &output[0..n]);
-    put_kept(page, end, output.len() - n)
-}
-
-fn put_kept(page: &mut [u8], at: usize, kept: usize) -> usize {
-    let behind = pages::text(page, at, b"+");
-    put_number(page, behind, kept as u64)
 }

@@ -3,18 +3,18 @@
 use mathlib.Core.Path.{◌≡◌, refl, sym, ap, ap₂, ◌∙◌}
 use mathlib.Core.Bool.{Bool, true, false, cond}
 use mathlib.Core.List.{List, [], ◌∷◌, ◌++◌}
-use Prim.Native.Nat.{ℕ, zero, suc, ◌+◌, ◌-◌, ◌*◌, ◌/◌, ◌%◌, ◌^◌, ◌<◌}
+use Prim.Native.Nat.{ℕ, ◌+◌, ◌*◌, ◌/◌, ◌%◌, ◌^◌, ◌<◌}
 use native.Mathlib.Nat.{mul-div_cancel, mul-mod_left, div-one, mod-eq_of_lt, zero-lt-suc}
-use native.Mathlib.Numerals.{sub-one, add-one}
 use native.Mathlib.Omega.{arith}
 use lib.Bits.{bit_xor, xor_lt}
-use lib.ListN.{length, get_or, drop, replicate}
-use lib.Seq.{drop-cons}
+use lib.ListN.{length, replicate}
+use Rattle.std.specs.List.{fold}
+use Rattle.std.proofs.lemmas.List.{replicate-append-replicate}
 use Rattle.bits.specs.Bits.{◌⊞◌, odd, bits, number, bits_of}
-use Rattle.bits.proofs.Numbers.{length-bits, number-bits, number_lt, bits-mod, bits-of, bits-append}
+use Rattle.bits.proofs.Numbers.{length-bits, number-bits, bits-mod, bits-of, bits-append}
 use Rattle.bits.proofs.Xor.{⊕-false, ⊞-zeros, bits-xor}
-use Rattle.checksum.specs.Checksum.{polynomial, divided, after, stepped}
-use Rattle.checksum.proofs.Division.{length-divided, length-after, after-append, folded}
+use Rattle.checksum.specs.Checksum.{polynomial, start, divided, after, stepped, checksum}
+use Rattle.checksum.proofs.Division.{length-after, after-append, folded}
 
 even : (m : ℕ) → odd (m * 2 / 1) ≡ false
 unfolding odd
@@ -57,12 +57,9 @@ shifted-is r top h =
     small true = xor_lt 16 (r % 32768 * 2) polynomial (omega arith) (omega arith)
     small false = xor_lt 16 (r % 32768 * 2) 0 (omega arith) (omega arith)
 
--- a list of 16 bits and its number say the same
-pub register-bits : (l : List Bool) → length l ≡ 16 → bits 16 (number l) ≡ l
-register-bits l h = bits-of 16 l h
-
-pub register-lt : (l : List Bool) → length l ≡ 16 → number l < 65536
-register-lt l h = rw h at (number_lt l)
+-- a number of 16 bits is that of its bits
+pub same_register : (r : ℕ) → r < 65536 → number (bits 16 r) ≡ r
+same_register r h = number-bits 16 r ∙ mod-eq_of_lt h
 
 -- `step` brings the byte in at once
 brought : (b : ℕ) → bits 16 (b * 256) ≡ bits 8 b ++ replicate 8 false
@@ -80,19 +77,27 @@ step_from r b =
     ∙ ⊞-zeros (bits 16 r) (bits 8 b) 8 (rw (length-bits 8 b, length-bits 16 r) (omega arith)))
     ∙ sym (rw (length-bits 8 b) at (folded (bits 16 r) (bits 8 b) (length-bits 16 r) (rw length-bits (omega arith)))))
 
--- one shift of those that are left
-pub shift-next : (r left : ℕ) → 0 < left
-    → number (after (bits 16 (number (divided (bits 16 r) false))) (replicate (left - 1) false)) ≡ number (after (bits 16 r) (replicate left false))
+-- one shift more
+pub shift-next : (r : List Bool) (k : ℕ) → length r ≡ 16
+    → number (divided (bits 16 (number (after r (replicate k false)))) false) ≡ number (after r (replicate (k + 1) false))
 unfolding after
-shift-next r zero h = absurd (omega arith)
-shift-next r (suc left) h =
-    rw (sub-one (suc left), register-bits (divided (bits 16 r) false) (length-divided (bits 16 r) false (length-bits 16 r)))
+shift-next r k h =
+    let l = after r (replicate k false) in
+    ap (λ (m : List Bool). number (divided m false)) (bits-of 16 l (length-after r (replicate k false) h))
+    ∙ ap number (sym (after-append r (replicate k false) (false ∷ [])))
+    ∙ ap (λ (ds : List Bool). number (after r ds)) (replicate-append-replicate k 1 false)
 
--- one byte of those that are left
-pub byte_next : (r i : ℕ) (s : List ℕ) → i < length s
-    → number (after (bits 16 (stepped r (get_or s i 0))) (bits_of (drop (i + 1) s))) ≡ number (after (bits 16 r) (bits_of (drop i s)))
-unfolding bits_of
-byte_next r i s h =
-    let b = bits 8 (get_or s i 0) in
-    rw (register-bits (after (bits 16 r) b) (length-after (bits 16 r) b (length-bits 16 r)), add-one i, drop-cons s i 0 h)
-    (ap number (sym (after-append (bits 16 r) b (bits_of (drop (suc i) s)))))
+-- the bytes one after the other
+bytes-steps : (r : List Bool) (xs : List ℕ) → length r ≡ 16 → fold stepped (number r) xs ≡ number (after r (bits_of xs))
+unfolding after bits_of
+bytes-steps r [] h = refl
+bytes-steps r (x ∷ xs) h =
+    let next = after r (bits 8 x) in
+    ap (λ (m : List Bool). fold stepped (number (after m (bits 8 x))) xs) (bits-of 16 r h)
+    ∙ bytes-steps next xs (length-after r (bits 8 x) h)
+    ∙ ap number (sym (after-append r (bits 8 x) (bits_of xs)))
+
+pub checksum-steps : (xs : List ℕ) → fold stepped start xs ≡ checksum xs
+unfolding checksum
+checksum-steps xs =
+    ap (λ (n : ℕ). fold stepped n xs) (sym (number-bits 16 start)) ∙ bytes-steps (bits 16 start) xs (length-bits 16 start)

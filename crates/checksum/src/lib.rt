@@ -14,13 +14,9 @@ pub fn of(bytes: &[u8]) -> u16
     ensures value { result ≡ checksum bytes.now }
     ensures bytes_unchanged { bytes.exit.now ≡ bytes.entry.now }
 {
-    let mut register = START;
-    let mut i = 0;
-    while i < bytes.len() {
-        register = step(register, bytes[i]);
-        i += 1;
-    }
-    register
+    bytes
+        .iter()
+        .fold(START, |register, &byte| step(register, byte))
 }
 
 // The register after one byte more. The byte's bits meet the register's eight highest ones, which are the next eight to
@@ -29,10 +25,8 @@ pub fn step(register: u16, byte: u8) -> u16
     ensures { result ≡ stepped register byte }
 {
     let mut r = register ^ (byte as u16 * 256);
-    let mut left: u32 = 8;
-    while 0 < left {
+    for _ in 0..u8::BITS {
         r = shifted(r);
-        left -= 1;
     }
     r
 }

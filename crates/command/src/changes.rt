@@ -1,139 +1,86 @@
 // Frames written, and edited.
-use crate::frame::MOST_WORDS;
-use crate::given::{Typed, Values};
-use crate::{fields, given, picture};
-use frames::Writing;
+use crate::carried::Carried;
+use crate::wrong::Wrong;
+use crate::{fields, frame, given, picture};
 use printing::sent_parts::MOST_BYTES;
-use satellites::{Known, Satellite};
-use words::Number;
+use printing::tests::ROOM;
+use refusals::Refusal;
+use satellites::Satellite;
 
 // A line has fewer values.
 const MOST_VALUES: usize = 2048;
 
 // write SATELLITE TYPE VALUES..
-pub(crate) fn write(line: &[u8]) {
-    if !given::has_words(line, 3, MOST_WORDS) {
-        return;
-    }
-    let typed = given::satellite_and_type(line);
-    let Typed::Is(number, ty) = typed else {
-        return;
-    };
+pub(crate) fn write(line: &[u8]) -> Result<(), Wrong<'_>> {
+    given::has_at_least(line, 3)?;
+    let (number, ty) = given::satellite_and_type(line)?;
     let mut values = [0u32; MOST_VALUES];
-    write_words(line, number, ty, &mut values);
-}
-
-fn write_words(line: &[u8], number: u32, ty: u32, values: &mut [u32]) {
-    let told = given::numbers(line, 3, values);
-    let Values::Are(n) = told else {
-        return;
-    };
-    if values.len() < n {
-        return;
-    }
+    let values = given::numbers(line, 3, &mut values)?;
     let mut output = [0u8; MOST_BYTES];
-    write_values(number, ty, &values[0..n], &mut output);
+    match writing::write(number, ty, values, &mut output) {
+        Ok(length) => print_bytes(output.get(..length).unwrap_or(&[])),
+        Err(refusal) => return Err(write_refused(refusal, number, ty, values)),
+    }
+    Ok(())
 }
 
-fn write_values(number: u32, ty: u32, values: &[u32], output: &mut [u8]) {
-    let writing = writing::write(number, ty, values, output);
-    if writing.refusal != refusals::ACCEPTED {
-        return write_refused(number, ty, values, writing);
-    }
-    print_front(output, writing.answer);
-}
-
-fn print_front(bytes: &[u8], n: usize) {
-    if n <= bytes.len() {
-        printing::bytes(&bytes[0..n], b"");
-    }
+fn print_bytes(frame: &[u8]) {
+    printing::bytes(frame, b"");
     printing::text(b"\n");
 }
 
 // Tests 1, 5, 10, 11: the output has room for every frame.
-fn write_refused(number: u32, ty: u32, values: &[u32], writing: Writing) {
-    let known = Satellite::from_number(number);
-    let Known::Is(satellite) = known else {
-        return given::no_satellite(number);
+fn write_refused(refusal: Refusal, number: u32, ty: u32, values: &[u32]) -> Wrong<'static> {
+    let Some(satellite) = Satellite::from_number(number) else {
+        return Wrong::NoSatellite(number);
     };
-    printing::text(b"refused ");
-    if writing.refusal == refusals::TYPE {
-        printing::reasons::of_type_asked(satellite, ty);
-        return printing::text(b"\n");
+    match refusal {
+        Refusal::NotCarried => Wrong::NotCarried(satellite, ty),
+        // One of the values, since a frame with too few is refused ahead of this.
+        Refusal::Value(field) => {
+            let value = values.get(field).copied().unwrap_or(0);
+            Wrong::Value(satellite, ty, field, value)
+        }
+        _ => Wrong::Count(satellite, ty, values.len()),
     }
-    if writing.refusal == refusals::VALUES {
-        printing::reasons::of_count(satellite, ty, values.len());
-        return printing::text(b"\n");
-    }
-    let field = writing.answer;
-    if field < values.len() {
-        printing::reasons::of_value(satellite, ty, field, values[field]);
-    }
-    printing::text(b"\n");
 }
 
-// One field of a frame, and its new value.
-#[derive(Clone, Copy)]
-struct Change {
-    satellite: Satellite,
-    ty: u32,
-    field: usize,
-    value: u32,
-}
-
-// Field and value are the last two words. Which fields there are, the frame's type says.
-pub(crate) fn edit(line: &[u8], satellite: Satellite, ty: u32, frame: &[u8], values: &[u32]) {
+// edit SATELLITE FRAME FIELD VALUE
+pub(crate) fn edit(line: &[u8]) -> Result<(), Wrong<'_>> {
+    given::has_at_least(line, 5)?;
+    let mut bytes = [0u8; MOST_BYTES];
+    let mut values = [0u32; ROOM];
+    let frame = frame::of(line, 2, &mut bytes, &mut values)?;
+    let opened = match frame.reading {
+        Ok(opened) => opened,
+        Err(refusal) => {
+            frame.refused(refusal);
+            return Ok(());
+        }
+    };
+    // Which fields there are, the frame's type says.
     let count = words::count(line);
-    if count < 2 {
-        return;
-    }
-    let named = given::field(words::word(line, count - 2), satellite, ty);
-    let Number::Is(field) = named else {
-        return;
-    };
-    let new = given::number(words::word(line, count - 1));
-    let Number::Is(value) = new else {
-        return;
-    };
-    let change = Change {
-        satellite,
-        ty,
-        field: field as usize,
-        value,
-    };
+    let field = given::field(words::word(line, count - 2), &opened.carried)?;
+    let value = given::number(words::word(line, count - 1))?;
     let mut copy = [0u8; MOST_BYTES];
-    edit_in(change, frame, values, &mut copy);
-}
-
-fn edit_in(change: Change, frame: &[u8], values: &[u32], copy: &mut [u8]) {
-    let n = frame.len();
-    if copy.len() < n {
-        return;
+    if let Some(edited) = copy.get_mut(..frame.bytes.len()) {
+        edited.copy_from_slice(frame.bytes);
+        match editing::edit(frame.satellite, edited, field, value) {
+            Ok(_) => {
+                print_bytes(edited);
+                fields::changed(&opened, field, value);
+                picture::print(&opened.carried, field, frame.bytes, edited);
+            }
+            Err(refusal) => return Err(edit_refused(refusal, &opened.carried, field, value)),
+        }
     }
-    copy[0..n].copy_from_slice(frame);
-    edit_copy(change, frame, values, &mut copy[0..n]);
-}
-
-fn edit_copy(change: Change, frame: &[u8], values: &[u32], copy: &mut [u8]) {
-    let satellite = change.satellite;
-    let writing = editing::edit(satellite.number(), copy, change.field, change.value);
-    if writing.refusal != refusals::ACCEPTED {
-        return edit_refused(change, writing.refusal);
-    }
-    printing::bytes(copy, b"");
-    printing::text(b"\n");
-    fields::changed(satellite, change.ty, change.field, values, change.value);
-    picture::print(satellite, change.ty, change.field, frame, copy);
+    Ok(())
 }
 
 // Tests 13 and 11: the frame is one that reading accepts.
-fn edit_refused(change: Change, refusal: u32) {
-    let satellite = change.satellite;
-    printing::text(b"refused ");
-    if refusal == refusals::FIELD {
-        printing::reasons::of_field(satellite, change.ty, change.field);
-    } else {
-        printing::reasons::of_value(satellite, change.ty, change.field, change.value);
+fn edit_refused(refusal: Refusal, carried: &Carried, field: usize, value: u32) -> Wrong<'static> {
+    match refusal {
+        Refusal::Field => Wrong::NoField(carried.satellite, carried.ty, field),
+        _ => Wrong::Value(carried.satellite, carried.ty, field, value),
     }
-    printing::text(b"\n");
 }

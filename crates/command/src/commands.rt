@@ -1,53 +1,31 @@
 // The commands by their first words.
-use crate::frame::Asked;
-use crate::lines::Next;
-use crate::warmth::Codes;
-use crate::{changes, fields, following, frame, given, helps, warmth};
+use crate::following::Rows;
+use crate::wrong::Wrong;
+use crate::{changes, explains, fields, following, frame, helps, warmth};
 
-// What the next line is, is the answer: frames for `csv` and `json`.
-pub(crate) fn answer(line: &[u8]) -> Next {
+// Behind `csv` and `json` frames follow; what they become is the answer.
+pub(crate) fn answer(line: &[u8]) -> Option<Rows> {
+    act(line).unwrap_or_else(|wrong| {
+        wrong.print();
+        None
+    })
+}
+
+fn act(line: &[u8]) -> Result<Option<Rows>, Wrong<'_>> {
     let word = words::word(line, 0);
-    if word == b"csv".as_slice() {
-        return following::csv(line);
+    match word {
+        b"csv" => return Ok(Some(following::csv(line)?)),
+        b"json" => return Ok(Some(following::json(line)?)),
+        b"read" => frame::read(line)?,
+        b"fields" => fields::list(line)?,
+        b"layouts" => fields::layouts(line)?,
+        b"write" => changes::write(line)?,
+        b"edit" => changes::edit(line)?,
+        b"explain" => explains::explain(line)?,
+        b"temperature" => warmth::temperature(line)?,
+        b"summary" => warmth::summary(line)?,
+        b"help" => helps::help(line)?,
+        _ => return Err(helps::unknown(word)),
     }
-    if word == b"json".as_slice() {
-        return following::json(line);
-    }
-    act(line, word);
-    Next::Command
-}
-
-fn act(line: &[u8], word: &[u8]) {
-    if word == b"read".as_slice() {
-        return frame::of(line, Asked::Read);
-    }
-    if word == b"fields".as_slice() {
-        return fields::list(line);
-    }
-    if word == b"layouts".as_slice() {
-        return fields::layouts(line);
-    }
-    if word == b"write".as_slice() {
-        return changes::write(line);
-    }
-    if word == b"edit".as_slice() {
-        return frame::of(line, Asked::Edit);
-    }
-    act_else(line, word);
-}
-
-fn act_else(line: &[u8], word: &[u8]) {
-    if word == b"explain".as_slice() {
-        return frame::of(line, Asked::Explain);
-    }
-    if word == b"temperature".as_slice() {
-        return warmth::of(line, Codes::Each);
-    }
-    if word == b"summary".as_slice() {
-        return warmth::of(line, Codes::Day);
-    }
-    if word == b"help".as_slice() {
-        return helps::help(line);
-    }
-    given::wrong_word(line, 0, b"unknown command", b" (help lists the commands)");
+    Ok(None)
 }

@@ -1,98 +1,98 @@
 // A frame taken apart, and the tests in their order: what each found and expected, and at which one reading stops.
-use crate::picture::plus;
+// Satellite and frame are two parameters, as in `fronts`, which is asked with both.
+use crate::carried::Carried;
+use crate::frame::Frame;
+use crate::wrong::Wrong;
 use crate::{frame, given};
-use frames::Reading;
-use printing::{sent_parts, tests};
-use satellites::{Known, Satellite};
+use printing::sent_parts::MOST_BYTES;
+use printing::tests::ROOM;
+use printing::{say, sent_parts, tests};
+use refusals::Refusal;
+use satellites::Satellite;
 
-// Which test fails is what reading says.
-pub(crate) fn print(number: u32, frame: &[u8], reading: Reading) {
-    match Satellite::from_number(number) {
-        Known::Is(satellite) => taken_apart(satellite, frame, reading),
-        Known::Unknown => no_satellite(number, reading.refusal),
+// explain SATELLITE FRAME
+pub(crate) fn explain(line: &[u8]) -> Result<(), Wrong<'_>> {
+    given::has_at_least(line, 3)?;
+    let mut bytes = [0u8; MOST_BYTES];
+    let mut values = [0u32; ROOM];
+    let frame = frame::of(line, 0, &mut bytes, &mut values)?;
+    match Satellite::from_number(frame.satellite) {
+        Some(satellite) => taken_apart(satellite, frame),
+        None => no_satellite(frame.satellite),
     }
+    Ok(())
 }
 
-fn no_satellite(number: u32, refusal: u32) {
-    number_test(number, refusal);
-    given::no_satellite(number);
+fn no_satellite(number: u32) {
+    number_test(number);
+    printing::text(b"fails\n");
+    Wrong::NoSatellite(number).print();
     printing::text(b"why: a frame is read by its satellite's table, and none has this number\n");
 }
 
-fn taken_apart(satellite: Satellite, frame: &[u8], reading: Reading) {
-    let stop = reading.refusal;
-    parts(satellite, frame);
-    number_test(satellite.number(), stop);
-    test(2, b"bytes", satellite, frame, stop);
-    test(3, b"training and sync", satellite, frame, stop);
-    test(4, b"address", satellite, frame, stop);
-    test(5, b"type", satellite, frame, stop);
-    test(6, b"size byte", satellite, frame, stop);
-    test(7, b"length in bytes", satellite, frame, stop);
-    test(8, b"room for values", satellite, frame, stop);
-    test(9, b"checksum", satellite, frame, stop);
-    if stop == refusals::ACCEPTED {
-        return accepted(reading);
-    }
-    frame::refused(stop, satellite.number(), frame);
-    why(stop, satellite, frame);
+fn number_test(number: u32) {
+    say!("test 1, satellite number: {number}, expected 6 or less: ");
 }
 
-fn accepted(reading: Reading) {
-    printing::text(b"accepted: type ");
-    printing::number(reading.ty as u64);
-    printing::text(b", ");
-    printing::type_name(reading.ty);
-    printing::text(b", ");
-    printing::number(reading.count as u64);
-    printing::text(b" fields\n");
-}
-
-fn number_test(number: u32, stop: u32) {
-    printing::text(b"test 1, satellite number: ");
-    printing::number(number as u64);
-    printing::text(b", expected 6 or less: ");
-    verdict(1, stop);
-}
-
-// A test behind the one at which reading stops is not made.
-fn test(n: u32, what: &[u8], satellite: Satellite, frame: &[u8], stop: u32) {
-    if stop != refusals::ACCEPTED {
-        if stop < n {
-            return;
+// Which test fails is what reading says.
+fn taken_apart(satellite: Satellite, frame: Frame<'_>) {
+    parts(satellite, frame.bytes);
+    number_test(satellite.number());
+    printing::text(b"holds\n");
+    match frame.reading {
+        Ok(opened) => {
+            made(satellite, frame.bytes, None);
+            accepted(&opened.carried);
+        }
+        Err(refusal) => {
+            made(satellite, frame.bytes, Some(refusal.number()));
+            frame.refused(refusal);
+            printing::text(b"why: ");
+            cause(refusal, satellite, frame.bytes);
+            printing::text(b"\n");
         }
     }
-    printing::text(b"test ");
-    printing::number(n as u64);
-    printing::text(b", ");
-    printing::text(what);
-    printing::text(b": ");
-    tests::compared(n, satellite, frame);
-    printing::text(b": ");
-    verdict(n, stop);
 }
 
-fn verdict(n: u32, stop: u32) {
-    if n == stop {
-        printing::text(b"fails\n");
-    } else {
-        printing::text(b"holds\n");
+// The tests behind the first, by their numbers from 2 on.
+const TESTS: [&str; 8] = [
+    "bytes",
+    "training and sync",
+    "address",
+    "type",
+    "size byte",
+    "length in bytes",
+    "room for values",
+    "checksum",
+];
+
+// A test behind the one at which reading stops is not made.
+fn made(satellite: Satellite, frame: &[u8], stop: Option<u32>) {
+    for (n, what) in (2..10u32).zip(TESTS) {
+        say!("test {n}, {what}: ");
+        tests::compared(n, satellite, frame);
+        if stop == Some(n) {
+            return printing::text(b": fails\n");
+        }
+        printing::text(b": holds\n");
     }
+}
+
+fn accepted(carried: &Carried) {
+    say!("accepted: type {}, ", carried.ty);
+    printing::type_name(carried.ty);
+    say!(", {} fields\n", carried.layout.fields);
 }
 
 fn parts(satellite: Satellite, frame: &[u8]) {
-    let training = satellite.training();
     printing::text(b"satellite: ");
     printing::satellite(satellite);
-    printing::text(b"\nbytes: ");
-    printing::number(frame.len() as u64);
-    printing::text(b"\ntraining: ");
-    piece(frame, 0, training);
+    say!("\nbytes: {}\ntraining: ", frame.len());
+    piece(frame, 0, satellite.training());
     printing::text(b"sync: ");
-    piece(frame, training, plus(training, Satellite::SYNC_BYTES));
-    let at = satellite.type_byte_at();
+    piece(frame, satellite.training(), Satellite::SYNC_BYTES);
     if satellite.has_size_byte() {
-        size(frame, at);
+        size(frame.get(..satellite.type_byte_at()));
     }
     type_byte(satellite, frame);
     printing::text(b"body, as sent: ");
@@ -106,81 +106,58 @@ fn parts(satellite: Satellite, frame: &[u8]) {
     printing::text(b"\n");
 }
 
-// The size byte is ahead of the type byte.
-fn size(frame: &[u8], at: usize) {
-    printing::text(b"size: ");
-    if at == 0 {
-        return;
+// What there is of so many bytes.
+fn piece(frame: &[u8], from: usize, length: usize) {
+    match frame.get(from..) {
+        None | Some([]) => printing::text(b"none\n"),
+        Some(rest) => match rest.get(..length) {
+            None => {
+                printing::bytes(rest, b" ");
+                printing::text(b" and no more\n");
+            }
+            Some(piece) => {
+                printing::bytes(piece, b" ");
+                printing::text(b"\n");
+            }
+        },
     }
-    if frame.len() < at {
-        return printing::text(b"none\n");
-    }
-    let byte = frame[at - 1];
-    printing::byte(byte);
-    printing::text(b", says that ");
-    printing::number(wide(byte));
-    printing::text(b" bytes follow\n");
 }
 
-fn wide(byte: u8) -> u64 {
-    byte as u64
-}
-
-// What there is of the bytes from `from` up to `to`.
-fn piece(frame: &[u8], from: usize, to: usize) {
-    if frame.len() <= from {
-        return printing::text(b"none\n");
+// The size byte is the last ahead of the type byte.
+fn size(ahead: Option<&[u8]>) {
+    match ahead {
+        Some([.., byte]) => say!("size: {byte:02X}, says that {byte} bytes follow\n"),
+        _ => printing::text(b"size: none\n"),
     }
-    if to < from {
-        return printing::text(b"none\n");
-    }
-    if frame.len() < to {
-        printing::bytes(&frame[from..], b" ");
-        return printing::text(b" and no more\n");
-    }
-    printing::bytes(&frame[from..to], b" ");
-    printing::text(b"\n");
 }
 
 fn type_byte(satellite: Satellite, frame: &[u8]) {
-    let at = satellite.type_byte_at();
-    if frame.len() <= at {
+    let Some(&byte) = frame.get(satellite.type_byte_at()) else {
         return printing::text(b"type byte: none\n");
-    }
-    let byte = frame[at];
-    printing::text(b"type byte: ");
-    printing::byte(byte);
-    printing::text(b", type ");
-    printing::number(fronts::type_sent(satellite, frame) as u64);
-    printing::text(b", address ");
-    printing::half(byte);
-    printing::text(b"\n");
+    };
+    let ty = fronts::type_sent(satellite, frame);
+    let address = byte % 16;
+    say!("type byte: {byte:02X}, type {ty}, address {address:X}\n");
 }
 
 // What the refusal comes of, in words.
-fn why(refusal: u32, satellite: Satellite, frame: &[u8]) {
-    printing::text(b"why: ");
-    cause(refusal, satellite, frame);
-    printing::text(b"\n");
-}
-
-fn cause(refusal: u32, satellite: Satellite, frame: &[u8]) {
+fn cause(refusal: Refusal, satellite: Satellite, frame: &[u8]) {
     match refusal {
-        2 => printing::text(
+        Refusal::Short => printing::text(
             b"the frame ends ahead of its type byte, which would tell type and sender",
         ),
-        3 => printing::text(
+        Refusal::Preamble => printing::text(
             b"a frame starts with its satellite's training and sync. A bit has flipped, or it was cut out at another place, or is another's",
         ),
-        4 => owners(satellite, frame),
-        5 => printing::text(
+        Refusal::Address => owners(satellite, frame),
+        Refusal::NotCarried => printing::text(
             b"Tolimbar's table has no row for this type of this satellite, so it cannot say where the fields lie",
         ),
-        6 => printing::text(
+        Refusal::Size => printing::text(
             b"the size byte counts the bytes behind it, and this type's row has another number",
         ),
-        7 => length(satellite, frame),
-        9 => printing::text(
+        Refusal::Length => length(satellite, frame),
+        Refusal::Checksum => printing::text(
             b"type, address, body or checksum is not what was sent: a bit has flipped, or the frame is no such frame",
         ),
         _ => printing::text(b"there is no room"),
@@ -188,19 +165,17 @@ fn cause(refusal: u32, satellite: Satellite, frame: &[u8]) {
 }
 
 fn owners(satellite: Satellite, frame: &[u8]) {
-    let at = satellite.type_byte_at();
     printing::text(b"the type byte's low half names the sender. Of the seven this one is sent by:");
-    if at < frame.len() {
-        printing::owners(frame[at] % 16);
+    if let Some(byte) = frame.get(satellite.type_byte_at()) {
+        printing::owners(byte % 16);
     }
 }
 
 fn length(satellite: Satellite, frame: &[u8]) {
-    let ty = fronts::type_sent(satellite, frame);
-    if frame.len() < layouts::of(satellite, ty).frame {
-        return printing::text(
+    match layouts::of(satellite, fronts::type_sent(satellite, frame)) {
+        Some(layout) if frame.len() < layout.frame => printing::text(
             b"the frame is shorter than this type's: its end is missing, or it is another satellite's",
-        );
+        ),
+        _ => printing::text(b"bytes that are not the frame's follow it"),
     }
-    printing::text(b"bytes that are not the frame's follow it");
 }

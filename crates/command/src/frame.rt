@@ -1,101 +1,74 @@
 // The commands on a frame: it is read first, whatever is asked, so that each of them names the same refusal.
-use crate::given::Framed;
-use crate::{changes, explains, fields, given};
-use frames::Reading;
+use crate::carried::Carried;
+use crate::wrong::Wrong;
+use crate::{fields, given};
 use printing::sent_parts::MOST_BYTES;
 use printing::tests::ROOM;
-use satellites::{Known, Satellite};
-use words::Number;
+use refusals::Refusal;
+use satellites::Satellite;
 
+// A frame that reading accepts: its type, and the values of its fields.
 #[derive(Clone, Copy)]
-pub(crate) enum Asked {
-    Read,
-    Explain,
-    Edit,
+pub(crate) struct Opened<'b> {
+    pub(crate) carried: Carried,
+    pub(crate) values: &'b [u32],
 }
 
-// A line has fewer words.
-pub(crate) const MOST_WORDS: usize = 65536;
+// A frame that is given in words, and what reading says of it.
+#[derive(Clone, Copy)]
+pub(crate) struct Frame<'b> {
+    pub(crate) satellite: u32,
+    pub(crate) bytes: &'b [u8],
+    pub(crate) reading: Result<Opened<'b>, Refusal>,
+}
 
-// read SATELLITE FRAME, explain SATELLITE FRAME, edit SATELLITE FRAME FIELD VALUE
-pub(crate) fn of(line: &[u8], asked: Asked) {
-    if !given::has_words(line, least_words(asked), MOST_WORDS) {
-        return;
-    }
-    let named = given::satellite(words::word(line, 1));
-    let Number::Is(number) = named else {
-        return;
-    };
+// read SATELLITE FRAME
+pub(crate) fn read(line: &[u8]) -> Result<(), Wrong<'_>> {
+    given::has_at_least(line, 3)?;
     let mut bytes = [0u8; MOST_BYTES];
-    in_words(line, asked, number, &mut bytes);
+    let mut values = [0u32; ROOM];
+    let frame = of(line, 0, &mut bytes, &mut values)?;
+    match frame.reading {
+        Ok(opened) => fields::told(&opened),
+        Err(refusal) => frame.refused(refusal),
+    }
+    Ok(())
 }
 
-// The command, satellite and frame; and field and value.
-fn least_words(asked: Asked) -> usize {
-    match asked {
-        Asked::Read => 3,
-        Asked::Explain => 3,
-        Asked::Edit => 5,
-    }
+// Satellite and frame are the words behind the command's own, up to so many of the last.
+pub(crate) fn of<'l, 'b>(
+    line: &'l [u8],
+    behind: usize,
+    bytes: &'b mut [u8],
+    room: &'b mut [u32],
+) -> Result<Frame<'b>, Wrong<'l>> {
+    let satellite = given::satellite(words::word(line, 1))?;
+    let end = words::count(line).saturating_sub(behind);
+    let bytes = given::frame(line, 2, end, bytes).map_err(Wrong::NoFrame)?;
+    Ok(Frame {
+        satellite,
+        bytes,
+        reading: reading(satellite, bytes, room),
+    })
 }
 
-// How many words are behind the frame: field and value.
-fn words_behind(asked: Asked) -> usize {
-    match asked {
-        Asked::Read => 0,
-        Asked::Explain => 0,
-        Asked::Edit => 2,
-    }
+// The values go to the start of `room`. Reading accepts no type that its satellite does not carry, and no room that is too small.
+pub(crate) fn reading<'b>(
+    satellite: u32,
+    bytes: &[u8],
+    room: &'b mut [u32],
+) -> Result<Opened<'b>, Refusal> {
+    let accepted = reading::read(satellite, bytes, room)?;
+    let satellite = Satellite::from_number(satellite).ok_or(Refusal::Satellite)?;
+    let carried = Carried::of(satellite, accepted.ty).ok_or(Refusal::NotCarried)?;
+    let values = room.get(..accepted.count).ok_or(Refusal::Room)?;
+    Ok(Opened { carried, values })
 }
 
-fn in_words(line: &[u8], asked: Asked, number: u32, bytes: &mut [u8]) {
-    let count = words::count(line);
-    let behind = words_behind(asked);
-    if count < behind {
-        return;
+impl Frame<'_> {
+    pub(crate) fn refused(&self, refusal: Refusal) {
+        printing::text(b"refused ");
+        printing::reasons::of_frame(refusal.number(), self.satellite, self.bytes);
+        printing::text(b"\n");
     }
-    let told = given::frame(line, 2, count - behind, bytes);
-    let Framed::Is(n) = told else {
-        printing::text(b"error: ");
-        given::frame_fault(line, told);
-        return printing::text(b"\n");
-    };
-    if bytes.len() < n {
-        return;
-    }
-    let mut room = [0u32; ROOM];
-    read(line, asked, number, &bytes[0..n], &mut room);
-}
-
-fn read(line: &[u8], asked: Asked, number: u32, frame: &[u8], room: &mut [u32]) {
-    let reading = reading::read(number, frame, room);
-    match asked {
-        Asked::Read => told(number, frame, reading, room),
-        Asked::Explain => explains::print(number, frame, reading),
-        Asked::Edit => edited(line, number, frame, reading, room),
-    }
-}
-
-fn told(number: u32, frame: &[u8], reading: Reading, values: &[u32]) {
-    if reading.refusal != refusals::ACCEPTED {
-        return refused(reading.refusal, number, frame);
-    }
-    if let Known::Is(satellite) = Satellite::from_number(number) {
-        fields::read(satellite, reading.ty, values);
-    }
-}
-
-fn edited(line: &[u8], number: u32, frame: &[u8], reading: Reading, values: &[u32]) {
-    if reading.refusal != refusals::ACCEPTED {
-        return refused(reading.refusal, number, frame);
-    }
-    if let Known::Is(satellite) = Satellite::from_number(number) {
-        changes::edit(line, satellite, reading.ty, frame, values);
-    }
-}
-
-pub(crate) fn refused(refusal: u32, number: u32, frame: &[u8]) {
-    printing::text(b"refused ");
-    printing::reasons::of_frame(refusal, number, frame);
-    printing::text(b"\n");
 }

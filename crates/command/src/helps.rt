@@ -1,15 +1,34 @@
 // What each command does, with an example that can be pasted.
 use crate::given;
+use crate::wrong::Wrong;
 
 // help, help COMMAND
-pub(crate) fn help(line: &[u8]) {
-    if !given::has_words(line, 1, 2) {
-        return;
+pub(crate) fn help(line: &[u8]) -> Result<(), Wrong<'_>> {
+    given::has_words(line, 1, 2)?;
+    let word = words::word(line, 1);
+    match word {
+        b"" | b"help" => all(),
+        b"layouts" => layouts(),
+        b"fields" => fields(),
+        b"read" => read(),
+        b"csv" => csv(),
+        b"json" => json(),
+        b"write" => write(),
+        b"edit" => edit(),
+        b"explain" => explain(),
+        b"temperature" => temperature(),
+        b"summary" => summary(),
+        _ => return Err(unknown(word)),
     }
-    if words::count(line) < 2 {
-        return all();
+    Ok(())
+}
+
+pub(crate) fn unknown(word: &[u8]) -> Wrong<'_> {
+    Wrong::Word {
+        what: b"unknown command",
+        word,
+        hint: b" (help lists the commands)",
     }
-    of(line, words::word(line, 1));
 }
 
 fn all() {
@@ -31,47 +50,6 @@ SATELLITE is a name, in upper or lower case, or a number: 0 HADES-D, 1 HADES-ICM
 A line that begins with # is a remark, and has no answer.
 ",
     );
-}
-
-fn of(line: &[u8], word: &[u8]) {
-    if word == b"layouts".as_slice() {
-        return layouts();
-    }
-    if word == b"fields".as_slice() {
-        return fields();
-    }
-    if word == b"read".as_slice() {
-        return read();
-    }
-    if word == b"csv".as_slice() {
-        return csv();
-    }
-    if word == b"json".as_slice() {
-        return json();
-    }
-    if word == b"write".as_slice() {
-        return write();
-    }
-    of_others(line, word);
-}
-
-fn of_others(line: &[u8], word: &[u8]) {
-    if word == b"edit".as_slice() {
-        return edit();
-    }
-    if word == b"explain".as_slice() {
-        return explain();
-    }
-    if word == b"temperature".as_slice() {
-        return temperature();
-    }
-    if word == b"summary".as_slice() {
-        return summary();
-    }
-    if word == b"help".as_slice() {
-        return all();
-    }
-    given::wrong_word(line, 1, b"unknown command", b" (help lists the commands)");
 }
 
 fn layouts() {

@@ -4,6 +4,7 @@
 // empty line. A bad word is answered by one line, `error: ..`, and a refusal by one, `refused N: ..`; the next line is still answered.
 #![tactic(auto)]
 
+mod carried;
 mod changes;
 mod commands;
 mod explains;
@@ -15,105 +16,75 @@ mod helps;
 mod lines;
 mod picture;
 mod warmth;
+mod wrong;
 
-use lines::Next;
+use input::TooLong;
+use lines::{Lines, Unwritten};
 use std::env::{Env, FillError};
 use std::io::Read;
 use std::process::ExitCode;
 
+// The status is 1 where the program stops since the end of an answer or of a row could not be written.
 fn main(rt: HostRuntime) -> ExitCode {
-    let mut stdin = rt.stdin();
-    let mut part = io::large_buffer();
-    let mut line = io::buffer();
-    if has_arguments(&rt) {
-        return status(by_arguments(&rt, &mut stdin, &mut part, &mut line));
+    match answered(&rt, &mut rt.stdin()) {
+        Ok(()) => ExitCode::SUCCESS,
+        Err(Unwritten) => ExitCode::FAILURE,
     }
-    status(lines::follow(&mut stdin, &mut part, &mut line, Next::Command, true))
 }
 
-// The status is 1 where the program stops since the end of an answer or of a row could not be written.
-fn status(written: bool) -> ExitCode {
-    if written {
-        ExitCode::SUCCESS
-    } else {
-        ExitCode::FAILURE
+fn answered<E: Env, R: Read>(env: &E, from: &mut R) -> Result<(), Unwritten> {
+    // No less than a pipe holds is asked for at once.
+    let mut part = io::large_buffer();
+    let mut line = io::buffer();
+    if !has_arguments(env) {
+        return Lines::new(from, &mut part, &mut line).answer();
+    }
+    let rows = match joined(env, &mut line) {
+        Ok(words) => commands::answer(words),
+        Err(TooLong) => {
+            given::line_too_long(&line);
+            None
+        }
+    };
+    match rows {
+        Some(rows) => Lines::new(from, &mut part, &mut line).follow(rows),
+        None => Ok(()),
     }
 }
 
 // Whether there is an argument behind the program's own name.
 fn has_arguments<E: Env>(env: &E) -> bool {
-    let mut word = io::buffer();
-    match env.arg(1, &mut word) {
-        Ok(_) => true,
-        Err(FillError::TooLong) => true,
+    match env.arg(1, &mut io::buffer()) {
+        Ok(_) | Err(FillError::TooLong) => true,
         Err(FillError::NotPresent) => false,
     }
 }
 
-// The answer is as that of `lines::follow`.
-fn by_arguments<E: Env, R: Read>(env: &E, from: &mut R, part: &mut [u8], line: &mut [u8]) -> bool {
-    let told = joined(env, line);
-    let Line::Is(n) = told else {
-        given::line_too_long(line);
-        return true;
-    };
-    if line.len() < n {
-        return true;
-    }
-    let next = commands::answer(&line[0..n]);
-    match next {
-        Next::Command => true,
-        Next::Frame(number, row) => lines::follow(
-            from,
-            part,
-            line,
-            Next::Frame(number, row),
-            false,
-        ),
-        Next::End => true,
-        Next::Unwritten => false,
-    }
-}
-
-// Words that are joined to a line: its length, or that there is no place for it, and then it has what fits.
-#[derive(Clone, Copy)]
-enum Line {
-    Is(usize),
-    TooLong,
-}
-
 // The arguments as one line, a blank behind each.
-fn joined<E: Env>(env: &E, line: &mut [u8]) -> Line {
+fn joined<'l, E: Env>(env: &E, line: &'l mut [u8]) -> Result<&'l [u8], TooLong> {
     let mut at = 0;
     let mut word = io::buffer();
     for i in 1..usize::MAX {
         match env.arg(i, &mut word) {
-            Ok(n) => match with_argument(line, at, &word[..n]) {
-                Line::Is(end) => at = end,
-                Line::TooLong => return Line::TooLong,
-            },
-            Err(FillError::TooLong) => {
-                put(line, at, &word);
-                return Line::TooLong;
+            Ok(n) => {
+                at = put(line, at, &word[..n])?;
+                at = put(line, at, b" ")?;
             }
-            Err(FillError::NotPresent) => return Line::Is(at),
+            Err(FillError::TooLong) => {
+                put(line, at, &word)?;
+                return Err(TooLong);
+            }
+            Err(FillError::NotPresent) => break,
         }
     }
-    Line::Is(at)
+    line.get(..at).ok_or(TooLong)
 }
 
-fn with_argument(line: &mut [u8], at: usize, word: &[u8]) -> Line {
-    match put(line, at, word) {
-        Line::Is(end) => put(line, end, b" "),
-        Line::TooLong => Line::TooLong,
-    }
-}
-
-// Of a text that does not fit, the front that does.
-fn put(line: &mut [u8], at: usize, text: &[u8]) -> Line {
+// The answer is the place behind the text.
+fn put(line: &mut [u8], at: usize, text: &[u8]) -> Result<usize, TooLong> {
     let end = pages::text(line, at, text);
     if end - at < text.len() {
-        return Line::TooLong;
+        return Err(TooLong);
     }
-    Line::Is(end)
+    Ok(end)
 }

@@ -1,182 +1,107 @@
 // The picture of an edit: the sent bits of both frames, byte by byte and part by part, with the flipped ones marked and counted.
+use crate::carried::Carried;
+use printing::say;
 use printing::sent_parts::CHECKSUM;
 use satellites::Satellite;
+use std::ops::Range;
 
-pub(crate) fn print(satellite: Satellite, ty: u32, field: usize, sent: &[u8], edited: &[u8]) {
-    let at = satellite.type_byte_at();
+pub(crate) fn print(carried: &Carried, field: usize, sent: &[u8], edited: &[u8]) {
+    let picture = Picture { sent, edited };
     printing::text(b"byte, as sent, as edited, flipped\n");
-    clear(satellite, at, sent, edited);
-    if sent.len() < CHECKSUM {
-        return;
-    }
-    let checksum = bits(sent.len() - CHECKSUM);
-    let body = bits(plus(at, 1));
-    let layout = layouts::of(satellite, ty);
-    let start = plus(body, layout.start(field));
-    let end = plus(start, layout.width(field));
-    part(b"body ahead of the field", sent, edited, body, start);
-    part(b"the field", sent, edited, start, end);
-    part(b"rest of the body", sent, edited, end, checksum);
-    part(b"checksum", sent, edited, checksum, bits(sent.len()));
-    counted(b"in all", sent, edited, 0, bits(sent.len()));
+    picture.clear(carried.satellite);
+    let body = bits(carried.satellite.type_byte_at() + 1);
+    let start = body.saturating_add(carried.layout.start(field));
+    let end = start.saturating_add(carried.layout.width(field));
+    let checksum = bits(sent.len().saturating_sub(CHECKSUM));
+    let all = bits(sent.len());
+    picture.part("body ahead of the field", body..start);
+    picture.part("the field", start..end);
+    picture.part("rest of the body", end..checksum);
+    picture.part("checksum", checksum..all);
+    picture.counted("in all", 0..all);
 }
 
-// Preamble, size byte where there is one, and type byte.
-fn clear(satellite: Satellite, at: usize, sent: &[u8], edited: &[u8]) {
-    let sync_end = plus(satellite.training(), Satellite::SYNC_BYTES);
-    part(b"preamble", sent, edited, 0, bits(sync_end));
-    if satellite.has_size_byte() {
-        part(b"size", sent, edited, bits(sync_end), bits(at));
-    }
-    part(b"type", sent, edited, bits(at), bits(plus(at, 1)));
+// No frame is so long that it has more.
+fn bits(bytes: usize) -> usize {
+    bytes.saturating_mul(8)
 }
 
-// No frame is so long that these matter.
-pub(crate) fn plus(a: usize, b: usize) -> usize {
-    if a < 65536 {
-        if b < 65536 {
-            return a + b;
+// A frame as it was sent, and as it is edited.
+#[derive(Clone, Copy)]
+struct Picture<'a> {
+    sent: &'a [u8],
+    edited: &'a [u8],
+}
+
+impl Picture<'_> {
+    // Preamble, size byte where there is one, and type byte.
+    fn clear(&self, satellite: Satellite) {
+        let sync_end = bits(satellite.training() + Satellite::SYNC_BYTES);
+        let at = bits(satellite.type_byte_at());
+        self.part("preamble", 0..sync_end);
+        if satellite.has_size_byte() {
+            self.part("size", sync_end..at);
+        }
+        self.part("type", at..at.saturating_add(8));
+    }
+
+    // The rows of some bits.
+    fn part(&self, label: &str, part: Range<usize>) {
+        let (start, end) = (part.start, part.end);
+        self.counted(label, part);
+        for (place, (&sent, &edited)) in self.sent.iter().zip(self.edited).enumerate() {
+            row(place, sent, edited, mask(place, start, end));
         }
     }
-    a
-}
 
-fn bits(bytes: usize) -> usize {
-    if bytes < 65536 { bytes * 8 } else { 0 }
-}
-
-// The bits from `from` up to `to`.
-fn part(label: &[u8], sent: &[u8], edited: &[u8], from: usize, to: usize) {
-    counted(label, sent, edited, from, to);
-    rows(sent, edited, from, to);
-}
-
-fn counted(label: &[u8], sent: &[u8], edited: &[u8], from: usize, to: usize) {
-    printing::text(label);
-    printing::text(b": ");
-    if from <= to {
-        printing::number((to - from) as u64);
+    fn counted(&self, label: &str, part: Range<usize>) {
+        let bits = part.end.saturating_sub(part.start);
+        let flipped = self.flipped(part.start, part.end);
+        say!("{label}: {bits} bits, {flipped} flipped\n");
     }
-    printing::text(b" bits, ");
-    printing::number(flipped(sent, edited, from, to) as u64);
-    printing::text(b" flipped\n");
-}
 
-fn flipped(sent: &[u8], edited: &[u8], from: usize, to: usize) -> usize {
-    let mut n = 0;
-    let mut k = 0;
-    while k < sent.len() {
-        n = plus(
-            n,
-            ones(differing(sent[k], byte_at(edited, k)) & mask(k, from, to)),
-        );
-        k += 1;
-    }
-    n
-}
-
-fn rows(sent: &[u8], edited: &[u8], from: usize, to: usize) {
-    for k in 0..sent.len() {
-        row(k, sent[k], byte_at(edited, k), mask(k, from, to));
+    // No `sum`: it wants a bound on the number of bytes, which a slice has not, and its proof did not close.
+    fn flipped(&self, from: usize, to: usize) -> u32 {
+        let both = self.sent.iter().zip(self.edited).enumerate();
+        both.map(|(place, (sent, edited))| ((sent ^ edited) & mask(place, from, to)).count_ones())
+            .fold(0, |n: u32, ones| n.saturating_add(ones))
     }
 }
 
-fn byte_at(bytes: &[u8], k: usize) -> u8 {
-    if k < bytes.len() {
-        return bytes[k];
-    }
-    0
+// The bits of a byte that lie from `from` up to `to`.
+fn mask(place: usize, from: usize, to: usize) -> u8 {
+    behind(place, from) ^ behind(place, to)
 }
 
-fn differing(a: u8, b: u8) -> u8 {
-    a ^ b
+// The bits of a byte that do not lie ahead of a bit.
+fn behind(place: usize, bit: usize) -> u8 {
+    let ahead = bit.saturating_sub(bits(place));
+    if ahead < 8 { 0xFF >> ahead } else { 0 }
 }
 
-// The bits of byte k that lie from `from` up to `to`.
-fn mask(k: usize, from: usize, to: usize) -> u8 {
-    behind(k, from) ^ behind(k, to)
-}
-
-// The bits of byte k that do not lie ahead of a bit.
-fn behind(k: usize, bit: usize) -> u8 {
-    if k < bit / 8 {
-        return 0;
-    }
-    if bit / 8 < k {
-        return 0xFF;
-    }
-    match bit % 8 {
-        0 => 0xFF,
-        1 => 0x7F,
-        2 => 0x3F,
-        3 => 0x1F,
-        4 => 0x0F,
-        5 => 0x07,
-        6 => 0x03,
-        _ => 0x01,
-    }
-}
-
-fn ones(byte: u8) -> usize {
-    let high = plus(ones_of_two(byte / 64), ones_of_two(byte / 16));
-    plus(high, plus(ones_of_two(byte / 4), ones_of_two(byte)))
-}
-
-// Of the two lowest bits.
-fn ones_of_two(byte: u8) -> usize {
-    match byte % 4 {
-        0 => 0,
-        1 => 1,
-        2 => 1,
-        _ => 2,
-    }
-}
-
-fn row(k: usize, sent: u8, edited: u8, mask: u8) {
+fn row(place: usize, sent: u8, edited: u8, mask: u8) {
     if mask == 0 {
         return;
     }
-    pad(k);
-    printing::number(k as u64);
-    shown(sent, mask, b"01");
-    shown(edited, mask, b"01");
-    shown(sent ^ edited, mask, b".^");
+    say!("{place:>5}");
+    shown(sent, mask, b'0', b'1');
+    shown(edited, mask, b'0', b'1');
+    shown(sent ^ edited, mask, b'.', b'^');
     printing::text(b"\n");
 }
 
-// Three places.
-fn pad(k: usize) {
-    if k < 10 {
-        return printing::text(b"    ");
-    }
-    if k < 100 {
-        return printing::text(b"   ");
-    }
-    printing::text(b"  ");
-}
+// The bits of a byte, the first one that is sent first.
+const BITS: [u8; 8] = [0x80, 0x40, 0x20, 0x10, 0x08, 0x04, 0x02, 0x01];
 
 // Eight bits, with a blank ahead, by a letter for 0 and one for 1; those of another part as `-`.
-fn shown(byte: u8, mask: u8, letters: &[u8; 2]) {
-    let zero = letters[0];
-    let one = letters[1];
-    let text = [
-        b' ',
-        letter(byte / 128, mask / 128, zero, one),
-        letter(byte / 64, mask / 64, zero, one),
-        letter(byte / 32, mask / 32, zero, one),
-        letter(byte / 16, mask / 16, zero, one),
-        letter(byte / 8, mask / 8, zero, one),
-        letter(byte / 4, mask / 4, zero, one),
-        letter(byte / 2, mask / 2, zero, one),
-        letter(byte, mask, zero, one),
-    ];
-    printing::text(&text);
-}
-
-// The lowest bit of each tells.
-fn letter(byte: u8, mask: u8, zero: u8, one: u8) -> u8 {
-    if mask % 2 == 0 {
-        return b'-';
+fn shown(byte: u8, mask: u8, zero: u8, one: u8) {
+    let mut text = [b' '; 9];
+    for (letter, bit) in text[1..].iter_mut().zip(BITS) {
+        *letter = match (mask & bit, byte & bit) {
+            (0, _) => b'-',
+            (_, 0) => zero,
+            _ => one,
+        };
     }
-    if byte % 2 == 0 { zero } else { one }
+    printing::text(&text);
 }

@@ -10,13 +10,12 @@ use mathlib.Core.List.{List, [], ◌∷◌, ◌++◌}
 use lib.Dec.{leb}
 use borrow.Author.Tests.{leb-true, leb-false}
 use Rattle.bits.specs.Bits.{Bytes}
-use Rattle.satellites.specs.declared.Known.{Known}
-use Rattle.satellites.specs.declared.Known.TheVariants.{Is, Unknown}
+use Rattle.std.specs.Prelude.{Option, Some, None}
+use Rattle.satellites.specs.declared.Satellite.{Satellite}
 use Rattle.satellites.specs.Satellites.{known}
 use Rattle.satellites.proofs.Laws.{unknown}
 use Rattle.refusals.specs.Tests.{Said, says, Answered}
-use Rattle.frames.specs.declared.Reading.{Reading}
-use Rattle.frames.specs.declared.Writing.{Writing}
+use Rattle.frames.specs.Answers.{Reading, Writing}
 use Rattle.frames.specs.Registers.{register_of}
 use Rattle.frames.specs.Reading.{reading_by, room_after_by}
 use Rattle.frames.specs.Writing.{writing, output_after_by}
@@ -35,18 +34,18 @@ with-name n number said small (inl a) = inl (small, a.1)
 with-name n number said small (inr a) = absurd (a.0 (tt {0}))
 
 -- what is answered, test 1 being the first: for each satellite that a number can name, and for a number that names none
-by_name : (n : ℕ) (said : Printed → List Said) (number : Known → ℕ)
-    → ((w : Named n) → Answered (number (Is w.satellite)) (says 1 (Unit {0}) ∷ said (printed_of register_of w.satellite)))
-    → number Unknown ≡ 1 → Answered (number (known n)) (named n ∷ said (printed n))
+by_name : (n : ℕ) (said : Printed → List Said) (number : Option Satellite → ℕ)
+    → ((w : Named n) → Answered (number (Some w.satellite)) (says 1 (Unit {0}) ∷ said (printed_of register_of w.satellite)))
+    → number None ≡ 1 → Answered (number (known n)) (named n ∷ said (printed n))
 by_name n said number of-named of_none = go (leb n 6) refl
   where
     go : (b : Bool) → leb n 6 ≡ b → Answered (number (known n)) (named n ∷ said (printed n))
     go true e =
         let small = leb-true n 6 e in
         let w = named_by n small in
-        let its = subst (λ p. Answered (number (Is w.satellite)) (says 1 (Unit {0}) ∷ said p)) w.as-printed (of-named w) in
+        let its = subst (λ p. Answered (number (Some w.satellite)) (says 1 (Unit {0}) ∷ said p)) w.as-printed (of-named w) in
         subst (λ k. Answered (number k) (named n ∷ said (printed n))) (sym w.is_known)
-        (with-name n (number (Is w.satellite)) (said (printed n)) small its)
+        (with-name n (number (Some w.satellite)) (said (printed n)) small its)
     go false e =
         let above = leb-false n 6 e in
         inr (λ small. omega (arith, above, small), ap number (unknown n (omega (arith, above))) ∙ of_none)
@@ -70,9 +69,9 @@ module _ {n : ℕ} {frame room frame' room' : List ℕ} {r : Reading} (call : Re
   read-gives =
       let a = call.1.0 in
       let s = call.1.1.0 in
-      let given = call.1.1.1.1 in
-      let says = read-says call.0 a r s call.1.1.1.0 in (
-        says.0 ∙ (λ i. reading_by register_of (known (given.0 i)) (given.1.0 i) (given.1.1.0 i)),
+      let given = call.1.1.1.1.1.1 in
+      let says = read-says call.0 a call.1.1.1.0 s call.1.1.1.1.1.0 in (
+        sym call.1.1.1.1.0 ∙ says.0 ∙ (λ i. reading_by register_of (known (given.0 i)) (given.1.0 i) (given.1.1.0 i)),
         (
           sym given.1.1.1.1 ∙ says.1.0 ∙ (λ i. room_after_by register_of (known (given.0 i)) (given.1.0 i) (given.1.1.0 i)),
           (sym given.1.1.1.0 ∙ says.1.1.0 ∙ given.1.0, subst Bytes given.1.0 says.1.1.1),
@@ -92,14 +91,14 @@ module _ {n : ℕ} {frame room frame' room' : List ℕ} {r : Reading} (call : Re
   -- and by that satellite it answers and leaves
   module _ (w : Named n) where
     pub read_answer : r.refusal ≡ 0
-        → reading_by register_of (Is w.satellite) frame room ≡ record { refusal = 0; ty = r.ty; count = r.count }
+        → reading_by register_of (Some w.satellite) frame room ≡ record { refusal = 0; ty = r.ty; count = r.count }
     read_answer accepted =
-        ap (λ (k : Known). reading_by register_of k frame room) (sym w.is_known)
+        ap (λ (k : Option Satellite). reading_by register_of k frame room) (sym w.is_known)
         ∙ sym read-gives.0
         ∙ (λ i. record { refusal = accepted i; ty = r.ty; count = r.count })
 
-    pub read_left : room' ≡ room_after_by register_of (Is w.satellite) frame room
-    read_left = read-gives.1.0 ∙ ap (λ (k : Known). room_after_by register_of k frame room) w.is_known
+    pub read_left : room' ≡ room_after_by register_of (Some w.satellite) frame room
+    read_left = read-gives.1.0 ∙ ap (λ (k : Option Satellite). room_after_by register_of k frame room) w.is_known
 
 -- ---- writing
 
@@ -109,9 +108,9 @@ module _ {n t : ℕ} {values output values' output' : List ℕ} {w : Writing} (c
   write-gives =
       let a = call.1.0 in
       let s = call.1.1.0 in
-      let given = call.1.1.1.1 in
-      let says = write-says call.0 a w s call.1.1.1.0 in (
-        says.0 ∙ (λ i. writing (known (given.0 i)) (given.1.0 i) (given.1.1.0 i) (given.1.1.1.0 i)),
+      let given = call.1.1.1.1.1.1 in
+      let says = write-says call.0 a call.1.1.1.0 s call.1.1.1.1.1.0 in (
+        sym call.1.1.1.1.0 ∙ says.0 ∙ (λ i. writing (known (given.0 i)) (given.1.0 i) (given.1.1.0 i) (given.1.1.1.0 i)),
         (
           sym given.1.1.1.1.1
               ∙ says.1.0
@@ -131,11 +130,11 @@ module _ {n t : ℕ} {values output values' output' : List ℕ} {w : Writing} (c
     pub write-named : Named n
     write-named = passes-name n w.refusal (wanted (printed n) t values output) write-number other
 
-    pub write-answer : w ≡ writing (Is write-named.satellite) t values output
-    write-answer = write-gives.0 ∙ ap (λ (k : Known). writing k t values output) write-named.is_known
+    pub write-answer : w ≡ writing (Some write-named.satellite) t values output
+    write-answer = write-gives.0 ∙ ap (λ (k : Option Satellite). writing k t values output) write-named.is_known
 
-    pub write-left : output' ≡ output_after_by register_of (Is write-named.satellite) t values output
-    write-left = write-gives.1.0 ∙ ap (λ (k : Known). output_after_by register_of k t values output) write-named.is_known
+    pub write-left : output' ≡ output_after_by register_of (Some write-named.satellite) t values output
+    write-left = write-gives.1.0 ∙ ap (λ (k : Option Satellite). output_after_by register_of k t values output) write-named.is_known
 
 -- ---- editing
 
@@ -144,9 +143,9 @@ module _ {n k v : ℕ} {frame frame' : List ℕ} {e : Writing} (call : Edit n fr
   edit-gives =
       let a = call.1.0 in
       let s = call.1.1.0 in
-      let given = call.1.1.1.1 in
-      let says = edit-says call.0 a e s call.1.1.1.0 in (
-        says.0 ∙ (λ i. editing_by register_of (known (given.0 i)) (given.1.0 i) (given.1.1.0 i) (given.1.1.1.0 i)),
+      let given = call.1.1.1.1.1.1 in
+      let says = edit-says call.0 a call.1.1.1.0 s call.1.1.1.1.1.0 in (
+        sym call.1.1.1.1.0 ∙ says.0 ∙ (λ i. editing_by register_of (known (given.0 i)) (given.1.0 i) (given.1.1.0 i) (given.1.1.1.0 i)),
         sym given.1.1.1.1
             ∙ says.1.0
             ∙ (λ i. frame_after_by register_of (known (given.0 i)) (given.1.0 i) (given.1.1.0 i) (given.1.1.1.0 i)),
@@ -164,8 +163,8 @@ module _ {n k v : ℕ} {frame frame' : List ℕ} {e : Writing} (call : Edit n fr
 
   -- by that satellite it answers and leaves
   module _ (w : Named n) where
-    pub edit-answer : editing_by register_of (Is w.satellite) frame k v ≡ e
-    edit-answer = ap (λ (s : Known). editing_by register_of s frame k v) (sym w.is_known) ∙ sym edit-gives.0
+    pub edit-answer : editing_by register_of (Some w.satellite) frame k v ≡ e
+    edit-answer = ap (λ (s : Option Satellite). editing_by register_of s frame k v) (sym w.is_known) ∙ sym edit-gives.0
 
-    pub edit-left : frame' ≡ frame_after_by register_of (Is w.satellite) frame k v
-    edit-left = edit-gives.1 ∙ ap (λ (s : Known). frame_after_by register_of s frame k v) w.is_known
+    pub edit-left : frame' ≡ frame_after_by register_of (Some w.satellite) frame k v
+    edit-left = edit-gives.1 ∙ ap (λ (s : Option Satellite). frame_after_by register_of s frame k v) w.is_known

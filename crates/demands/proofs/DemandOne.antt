@@ -6,8 +6,7 @@ use mathlib.Core.Path.{◌≡◌, sym, ◌∙◌, ap, subst}
 use mathlib.Core.List.{List}
 use mathlib.Core.Logic.{◌≢◌}
 use Rattle.satellites.specs.Satellites.{known}
-use Rattle.frames.specs.declared.Reading.{Reading}
-use Rattle.frames.specs.declared.Writing.{Writing}
+use Rattle.frames.specs.Answers.{Reading, Writing}
 use Rattle.frames.specs.Registers.{register_of}
 use Rattle.frames.proofs.DemandOne as one
 use Rattle.reading.proofs.Determined.{read-asks-nothing}

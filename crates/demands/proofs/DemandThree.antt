@@ -8,9 +8,8 @@ use lib.ListN.{length, get_or, take, drop, set}
 use Rattle.bits.specs.Bits.{◌⊞◌, bits, bits_of}
 use Rattle.layouts.specs.Layouts.{width_at, start_at}
 use Rattle.satellites.specs.declared.Satellite.{Satellite}
-use Rattle.satellites.specs.declared.Known.TheVariants.{Is}
-use Rattle.frames.specs.declared.Reading.{Reading}
-use Rattle.frames.specs.declared.Writing.{Writing}
+use Rattle.std.specs.Prelude.{Some}
+use Rattle.frames.specs.Answers.{Reading, Writing}
 use Rattle.frames.specs.Registers.{register_of}
 use Rattle.frames.specs.Frames.{entry_in}
 use Rattle.frames.specs.Reading.{reading_by}
@@ -34,13 +33,13 @@ module _ {n k v : ℕ} {frame room frame' room' edited' : List ℕ} {r : Reading
   abbrev s : Satellite
   s = name.satellite
 
-  abbrev answer : reading_by register_of (Is s) frame room ≡ record { refusal = 0; ty = r.ty; count = r.count }
+  abbrev answer : reading_by register_of (Some s) frame room ≡ record { refusal = 0; ty = r.ty; count = r.count }
   answer = read_answer c name accepted
 
   fits-its : v < 2 ^ width_at (widths (printed_of register_of s) r.ty) k
   fits-its = subst (λ p. v < 2 ^ width_at (widths p r.ty) k) (sym name.as-printed) fits
 
-  abbrev is-edited : edited' ≡ frame_after_by register_of (Is s) frame k v
+  abbrev is-edited : edited' ≡ frame_after_by register_of (Some s) frame k v
   is-edited = edit-left d name
 
   edited : (e ≡ record { refusal = 0; answer = length frame }) × (length edited' ≡ length frame)
@@ -95,7 +94,7 @@ module _ {n k : ℕ} {g room g' room' h hall h' hall' : List ℕ} {r q : Reading
       → bits_of g ⊞ bits_of edited' ≡ bits_of h ⊞ bits_of changed'
   same-bits-flip {v = v} {u = u} fits fits' alike x y =
       let m = width (printed_of register_of w.satellite) in
-      let typed : reading_by register_of (Is w.satellite) h hall ≡ record { refusal = 0; ty = r.ty; count = q.count } =
+      let typed : reading_by register_of (Some w.satellite) h hall ≡ record { refusal = 0; ty = r.ty; count = q.count } =
       read_answer d w accepted' ∙ (λ i. record { refusal = 0; ty = sym same i; count = q.count }) in
       ap (λ (l : List ℕ). bits_of g ⊞ bits_of l) (edit-left x w)
       ∙ three.same-bits-flip register_of w.satellite r.ty k r.count q.count g h room hall (read_answer c w accepted) typed inside
@@ -113,8 +112,8 @@ edited-same {k = k} {frame = frame} {room = room} {r = r} c accepted inside d =
     let s = w.satellite in
     let left = read_left c w in
     let same = three.edited-same register_of s r.ty r.count frame room (read_answer c w accepted) k inside (read-gives c).1.1.1 in (
-      sym (edit-answer d w) ∙ (λ i. editing_by register_of (Is s) frame k (get_or (left i) k 0)) ∙ same.0,
-      edit-left d w ∙ (λ i. frame_after_by register_of (Is s) frame k (get_or (left i) k 0)) ∙ same.1,
+      sym (edit-answer d w) ∙ (λ i. editing_by register_of (Some s) frame k (get_or (left i) k 0)) ∙ same.0,
+      edit-left d w ∙ (λ i. frame_after_by register_of (Some s) frame k (get_or (left i) k 0)) ∙ same.1,
     )
 
 -- every edit that is accepted, with a room as long as the frame's values
@@ -124,7 +123,7 @@ edited-length {k = k} {v = v} {frame = frame} d accepted =
     let w = edit-named d (λ one. omega (arith, accepted, one)) in
     let s = w.satellite in
     let room = (entry_in s frame).widths in
-    let r = reading_by register_of (Is s) frame room in
+    let r = reading_by register_of (Some s) frame room in
     let only = three.accepted-only register_of s frame k v (ap (λ (a : Writing). a.refusal) (edit-answer d w) ∙ accepted) room (omega arith) in
     let read : r ≡ record { refusal = 0; ty = r.ty; count = r.count } = λ i. record { refusal = only.0 i; ty = r.ty; count = r.count } in (
       ap (λ (a : Writing). a.answer) (sym (edit-answer d w)

@@ -9,10 +9,9 @@ use lib.ListN.{length, get_or, take, drop}
 use Rattle.refusals.specs.Tests.{Answered, AllSaid}
 use Rattle.refusals.proofs.Says.{answered-once, all-answered, all_said, part-said, join-said}
 use Rattle.satellites.specs.declared.Satellite.{Satellite}
-use Rattle.satellites.specs.declared.Known.TheVariants.{Is}
+use Rattle.std.specs.Prelude.{Some}
 use Rattle.satellites.specs.Satellites.{known}
-use Rattle.frames.specs.declared.Reading.{Reading}
-use Rattle.frames.specs.declared.Writing.{Writing}
+use Rattle.frames.specs.Answers.{Reading, Writing}
 use Rattle.frames.specs.Registers.{register_of}
 use Rattle.frames.specs.Reading.{reading_by, room_after_by}
 use Rattle.frames.specs.Writing.{writing, output_after_by}
@@ -50,16 +49,16 @@ module _ {n : ℕ} {frame room frame' room' : List ℕ} {r : Reading} (c : Read 
   abbrev s : Satellite
   s = (read_named c accepted).satellite
 
-  abbrev named : known n ≡ Is s
+  abbrev named : known n ≡ Some s
   named = (read_named c accepted).is_known
 
   abbrev as-printed : printed_of register_of s ≡ printed n
   as-printed = (read_named c accepted).as-printed
 
-  abbrev answer : reading_by register_of (Is s) frame room ≡ record { refusal = 0; ty = r.ty; count = r.count }
+  abbrev answer : reading_by register_of (Some s) frame room ≡ record { refusal = 0; ty = r.ty; count = r.count }
   answer = read_answer c (read_named c accepted) accepted
 
-  abbrev left : room' ≡ room_after_by register_of (Is s) frame room
+  abbrev left : room' ≡ room_after_by register_of (Some s) frame room
   left = read_left c (read_named c accepted)
 
   its-values : (r.ty ≡ type_in (printed n) frame)
@@ -95,10 +94,10 @@ module _ {n t : ℕ} {values output values' output' : List ℕ} {w : Writing} (c
   abbrev sender : Satellite
   sender = (write-named c other).satellite
 
-  wrote : writing (Is sender) t values output ≡ record { refusal = 0; answer = w.answer }
+  wrote : writing (Some sender) t values output ≡ record { refusal = 0; answer = w.answer }
   wrote = sym (write-answer c other) ∙ (λ i. record { refusal = accepted i; answer = w.answer })
 
-  abbrev sent : output' ≡ output_after_by register_of (Is sender) t values output
+  abbrev sent : output' ≡ output_after_by register_of (Some sender) t values output
   sent = write-left c other
 
   abbrev frame : List ℕ

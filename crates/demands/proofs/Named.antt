@@ -4,7 +4,7 @@ use Prim.Native.Nat.{ℕ, ◌≤◌}
 use native.Mathlib.Omega.{arith}
 use mathlib.Core.Path.{◌≡◌}
 use Rattle.satellites.specs.declared.Satellite.{Satellite}
-use Rattle.satellites.specs.declared.Known.TheVariants.{Is}
+use Rattle.std.specs.Prelude.{Some}
 use Rattle.satellites.specs.Satellites.{known}
 use Rattle.satellites.proofs.Laws.{known-below, number-known}
 use Rattle.satellites.proofs.Paper.{paper-known}
@@ -17,7 +17,7 @@ use Rattle.demands.specs.Demands.{printed}
 -- a number names a satellite, of which the paper prints what the definitions have
 pub record Named (n : ℕ) : Type 0 where
   pub satellite : Satellite
-  pub is_known : known n ≡ Is satellite
+  pub is_known : known n ≡ Some satellite
   pub as-printed : printed_of register_of satellite ≡ printed n
 
 pub named_by : (n : ℕ) → n ≤ 6 → Named n

@@ -14,15 +14,14 @@ use Rattle.bits.specs.Bits.{bits, number, bits_of, changed, field, field_answer,
 use Rattle.bits.proofs.Contracts.{read-field-says, read-inside, replace-field-says, replaced-inside}
 use Rattle.bits.proofs.Fields.{read-replaced}
 use Rattle.layouts.specs.Layouts.{among, carried_by, counted, found, table, total, width_at}
-use Rattle.layouts.specs.Paper.{lines}
+use Rattle.layouts.specs.Paper.{lines, lines_of}
 use Rattle.layouts.proofs.Paper.{as-printed}
 use Rattle.names.specs.Documents.{document-000, document-002, document-004, width_named}
 use Rattle.names.proofs.Documents.{widths-printed, names-printed}
 use Rattle.refusals.specs.Tests.{Said, says, same, Answered, AllSaid}
 use Rattle.refusals.proofs.Says.{others_than, answered-once, all-answered, answered-fails, fails-answered}
 use Rattle.words.specs.Words.{text}
-use Rattle.frames.specs.declared.Reading.{Reading}
-use Rattle.frames.specs.declared.Writing.{Writing}
+use Rattle.frames.specs.Answers.{Reading, Writing}
 use Rattle.frames.specs.Paper.{carried, widths, size, type_byte_at, type_in, roomy, summed, fielded}
 use Rattle.demands.specs.Demands.{printed, named, writing_said, Read, Write, Edit}
 use Rattle.demands.specs.PowerFrames.{ReadField, ReplaceField, of_type, UpToFour, PowerFrames}
@@ -162,7 +161,7 @@ is-written {n = n} {values = values} {output = output} {w = w} low high call cou
     (all-answered said (high, (facts.0, (count ∙ sym facts.1.0, (λ i h. fit i (rw facts.1.0 at h), (long, tt {0}))))))
 
 pub power-frames : PowerFrames
-unfolding document-000 document-002 document-004 width_named text same total lines of_type table counted among carried_by found
+unfolding document-000 document-002 document-004 width_named text same total lines lines_of of_type table counted among carried_by found
 power-frames =
     record {
       its-widths = widths-printed;

@@ -13,8 +13,7 @@ use Rattle.scrambler.specs.Scrambler.{from}
 use Rattle.satellites.specs.Paper.{paper}
 use Rattle.layouts.specs.Layouts.{table, carried_by, width_at, start_at}
 use Rattle.refusals.specs.Tests.{Said, says, Answered, AllSaid}
-use Rattle.frames.specs.declared.Reading.{Reading}
-use Rattle.frames.specs.declared.Writing.{Writing}
+use Rattle.frames.specs.Answers.{Reading, Writing, read_in_numbers, written_in_numbers}
 use Rattle.frames.specs.Paper.{Printed, widths, size, type_byte_at, type_in, body, whole, roomy, summed, wanted, fielded}
 use Rattle.reading.proofs.read.Reads as read
 use Rattle.writing.proofs.write.Reads as write
@@ -62,27 +61,27 @@ frame_said n frame = named n ∷ (whole (printed n) frame ++ (summed (printed n)
 
 -- ---- the calls
 
--- Called for satellite n with this frame and this room, `read` answers r and leaves frame' and room'. `Post` is the contract itself: it
--- speaks of the parameters a when the call begins, of the answer, and of the parameters s when the call ends. `a.0`, `a.1.0` and
--- `a.1.1.0` are the first, second and third of them, κs the lifetimes of lent slices, and `now` gives what a slice holds
+-- Called for satellite n with this frame and this room, `read` answers x, r in 01's numbers, and leaves frame' and room'. `Post` is the
+-- contract itself: it speaks of the parameters a when the call begins, of the answer, and of the parameters s when the call ends. `a.0`,
+-- `a.1.0` and `a.1.1.0` are the first, second and third of them, κs the lifetimes of lent slices, and `now` gives what a slice holds
 abbrev pub Read : ℕ → List ℕ → List ℕ → Reading → List ℕ → List ℕ → Type 0
 Read n frame room r frame' room' =
-    (κs : _) × ((a : _) × ((s : _) × (read.Post κs a r s
+    (κs : _) × ((a : _) × ((s : _) × ((x : _) × ((read_in_numbers x ≡ r) × (read.Post κs a x s
     × ((a.0 ≡ n) × ((a.1.0.now ≡ frame) × ((a.1.1.0.now ≡ room)
-    × ((s.1.0.now ≡ frame') × (s.1.1.0.now ≡ room'))))))))
+    × ((s.1.0.now ≡ frame') × (s.1.1.0.now ≡ room'))))))))))
 
--- called for satellite n, type t, these values and this output, `write` answers w and leaves values' and output'
+-- called for satellite n, type t, these values and this output, `write` answers w in numbers and leaves values' and output'
 abbrev pub Write : ℕ → ℕ → List ℕ → List ℕ → Writing → List ℕ → List ℕ → Type 0
 Write n t values output w values' output' =
-    (κs : _) × ((a : _) × ((s : _) × (write.Post κs a w s
+    (κs : _) × ((a : _) × ((s : _) × ((x : _) × ((written_in_numbers x ≡ w) × (write.Post κs a x s
     × ((a.0 ≡ n) × ((a.1.0 ≡ t) × ((a.1.1.0.now ≡ values) × ((a.1.1.1.0.now ≡ output)
-    × ((s.1.1.0.now ≡ values') × (s.1.1.1.0.now ≡ output')))))))))
+    × ((s.1.1.0.now ≡ values') × (s.1.1.1.0.now ≡ output')))))))))))
 
--- called for satellite n, this frame, field k and value v, `edit` answers e and leaves frame'
+-- called for satellite n, this frame, field k and value v, `edit` answers e in numbers and leaves frame'
 abbrev pub Edit : ℕ → List ℕ → ℕ → ℕ → Writing → List ℕ → Type 0
 Edit n frame k v e frame' =
-    (κs : _) × ((a : _) × ((s : _) × (edit.Post κs a e s
-    × ((a.0 ≡ n) × ((a.1.0.now ≡ frame) × ((a.1.1.0 ≡ k) × ((a.1.1.1.0 ≡ v) × (s.1.0.now ≡ frame'))))))))
+    (κs : _) × ((a : _) × ((s : _) × ((x : _) × ((written_in_numbers x ≡ e) × (edit.Post κs a x s
+    × ((a.0 ≡ n) × ((a.1.0.now ≡ frame) × ((a.1.1.0 ≡ k) × ((a.1.1.1.0 ≡ v) × (s.1.0.now ≡ frame'))))))))))
 
 -- ---- 1.
 

@@ -13,8 +13,7 @@ use Rattle.layouts.specs.Paper.{PrintedLine, printed_line, printed_table, lines}
 use Rattle.refusals.specs.Tests.{AllSaid}
 use Rattle.names.specs.Fields.{names_of}
 use Rattle.names.specs.Documents.{document-000, document-002, document-004, document_of, widths_in, names_printed}
-use Rattle.frames.specs.declared.Reading.{Reading}
-use Rattle.frames.specs.declared.Writing.{Writing}
+use Rattle.frames.specs.Answers.{Reading, Writing}
 use Rattle.frames.specs.Paper.{type_in, widths, size, type_byte_at, whole}
 use Rattle.demands.specs.Demands.{printed, Read, Write, Edit}
 

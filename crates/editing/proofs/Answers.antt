@@ -8,13 +8,13 @@ use mathlib.Core.Bool.{true}
 use mathlib.Core.List.{List, [], ◌∷◌, ◌++◌, append-nil, append_assoc}
 use lib.Dec.{ltb}
 use lib.ListN.{length, take, drop, set, length-drop, drop_of_length-le, take-append-drop}
-use borrow.Author.Tests.{ltb-true}
+use borrow.Author.Tests.{ltb-true, ne_eqb}
 use Rattle.bits.specs.Bits.{bits_of, packed, replaced_answer}
 use Rattle.satellites.specs.declared.Satellite.{Satellite}
-use Rattle.satellites.specs.declared.Known.TheVariants.{Is, Unknown}
+use Rattle.std.specs.Prelude.{Some, None, Ok, Err, ⊤}
 use Rattle.satellites.specs.Satellites.{type_byte_at}
 use Rattle.layouts.specs.declared.Layout.{Layout}
-use Rattle.layouts.specs.Layouts.{layout_of, width_at, start_at}
+use Rattle.layouts.specs.Layouts.{laid_out, width_at, start_at}
 use Rattle.layouts.proofs.Entries.{widths-allowed}
 use Rattle.layouts.proofs.Laid.{width-laid, start-laid}
 use Rattle.bodies.specs.Bodies.{told, tiled}
@@ -25,26 +25,38 @@ use Rattle.frames.specs.Frames.{sealed, body_of, frame_of, from_type_byte, clear
 use Rattle.frames.specs.Reading.{checksum_test, whole_tests, frame_tests}
 use Rattle.frames.specs.Writing.{accepted_writing, refused_writing}
 use Rattle.frames.specs.Editing.{editing_tests, editing_by, edited, frame_after_by}
+use Rattle.refusals.specs.declared.Refusal.{Refusal}
+use Rattle.refusals.proofs.Refusals.{number-above}
+use Rattle.frames.specs.Answers.{written_in_numbers}
+use Rattle.frames.proofs.Told.{refused-written}
+use Rattle.fronts.specs.Fronts.{front_of}
+use Rattle.fronts.proofs.Told.{whole-refused}
 use Rattle.refusals.proofs.Tests.{numbered, holds-numbered}
 use Rattle.frames.proofs.Fronts.{whole-fails, front-is, is_carried, is-typed, clear-length, clear-tiled}
 use Rattle.frames.proofs.Edits.{Answers, refused-with, accepted-with, passed-7}
 use Rattle.editing.specs.Changed.{part_tests, edited_part}
-use Rattle.editing.proofs.Changes.{Leaves, stays}
+use Rattle.editing.proofs.Changes.{Leaves, part-refused, part-accepted}
 
 pub unknown-refused : (r : Registers) (frame : List ℕ) (k v : ℕ)
-    → (refused_writing 1 k ≡ editing_by r Unknown frame k v) × (frame ≡ frame_after_by r Unknown frame k v)
+    → (refused_writing 1 k ≡ editing_by r None frame k v) × (frame ≡ frame_after_by r None frame k v)
 unfolding editing_by frame_after_by editing_tests refusal
 unknown-refused r frame k v = (refl, refl)
 
 module _ (r : Registers) (s : Satellite) (frame : List ℕ) (k v : ℕ) where
   -- tests 2 to 7
-  pub whole-refuses : (n : ℕ) → refusal (whole_tests s frame) ≡ n → n ≢ 0 → Answers r s frame k v (refused_writing n k) frame
+  pub whole-refuses : (e : Refusal) → Err e ≡ front_of (whole_tests s frame) s frame
+      → Answers r s frame k v (written_in_numbers (Err e)) frame
   unfolding editing_tests frame_tests
-  whole-refuses n e some =
+  whole-refuses e told =
+      let n = refusal (whole_tests s frame) in
+      let its = whole-refused s frame k e told in
+      let some : n ≢ 0 = λ none. omega (arith, number-above e, its.0, none) in
+      let answers =
       refused-with r s frame k v n
       (ap (λ (ts : List Test). refusal (test 1 true ∷ ts)) (append_assoc (whole_tests s frame) (checksum_test (r s) s frame ∷ []) _)
-      ∙ whole-fails s frame _ n e some)
-      some
+      ∙ whole-fails s frame _ n refl some)
+      some in
+      (refused-written e n k its ∙ answers.0, answers.1)
 
   module _ (whole : refusal (whole_tests s frame) ≡ 0) where
     abbrev type : ℕ
@@ -54,7 +66,7 @@ module _ (r : Registers) (s : Satellite) (frame : List ℕ) (k v : ℕ) where
     ws = (entry_in s frame).widths
 
     abbrev layout : Layout
-    layout = layout_of s type
+    layout = laid_out s (entry_in s frame)
 
     abbrev part : List ℕ
     part = from_type_byte s frame
@@ -63,7 +75,7 @@ module _ (r : Registers) (s : Satellite) (frame : List ℕ) (k v : ℕ) where
     body = clear_body (r s) part
 
     -- the tests that are left are those of the part
-    part-decides : refusal (editing_tests r (Is s) frame k v) ≡ refusal (part_tests (r s) layout part k v)
+    part-decides : refusal (editing_tests r (Some s) frame k v) ≡ refusal (part_tests (r s) layout part k v)
     part-decides =
         passed-7 r s frame k v whole
         ∙ ap (λ (w : ℕ). refusal (checksum_test (r s) s frame ∷ test 13 (ltb k (length ws)) ∷ test 11 (ltb v (2 ^ w)) ∷ []))
@@ -100,17 +112,21 @@ module _ (r : Registers) (s : Satellite) (frame : List ℕ) (k v : ℕ) where
         drop_of_length-le part {i = length frame - type_byte_at s} (omega (arith, length-drop (type_byte_at s) frame)) in
         ap (λ (l : List ℕ). take (type_byte_at s) frame ++ l) (ap (λ (l : List ℕ). left ++ l) none ∙ append-nil left ∙ e)
 
-    -- what the part's number and what is left of it say of the frame
-    module _ (n : ℕ) (left : List ℕ) (leaves : Leaves (r s) layout part k v n left) where
-      pub part-refuses : n ≢ 0 → Answers r s frame k v (refused_writing n k) (put_back left)
-      part-refuses some =
-          let kept = leaves.1 ∙ sym (stays (r s) layout part k v n (sym leaves.0) some).1 in
-          let told = refused-with r s frame k v n (part-decides ∙ sym leaves.0) some in
-          (told.0, behind left part kept ∙ take-append-drop (type_byte_at s) frame ∙ told.1)
+    -- what the part's answer and what is left of it say of the frame
+    pub part-refuses : (e : Refusal) (left : List ℕ) → Leaves (r s) layout part k v (Err e) left
+        → Answers r s frame k v (written_in_numbers (Err e)) (put_back left)
+    part-refuses e left leaves =
+        let n = refusal (part_tests (r s) layout part k v) in
+        let its = part-refused (r s) layout part k v e leaves.0 in
+        let some : n ≢ 0 = λ none. omega (arith, number-above e, its.0, none) in
+        let kept : left ≡ part = leaves.1 ∙ rw (ne_eqb n 0 some) in
+        let told = refused-with r s frame k v n part-decides some in
+        (refused-written e n k its ∙ told.0, behind left part kept ∙ take-append-drop (type_byte_at s) frame ∙ told.1)
 
-      pub part-accepts : n ≡ 0 → Answers r s frame k v (accepted_writing s type) (put_back left)
-      part-accepts e =
-          let none = sym leaves.0 ∙ e in
-          let told = accepted-with r s frame k v (part-decides ∙ none) in
-          let new : left ≡ edited_part (r s) layout part k v = leaves.1 ∙ rw none in
-          (told.0, behind left (edited_part (r s) layout part k v) new ∙ part-edited (inside none) ∙ told.1)
+    pub part-accepts : (done : ⊤) (left : List ℕ) → Leaves (r s) layout part k v (Ok done) left
+        → Answers r s frame k v (accepted_writing s type) (put_back left)
+    part-accepts done left leaves =
+        let none = part-accepted (r s) layout part k v done leaves.0 in
+        let told = accepted-with r s frame k v (part-decides ∙ none) in
+        let new : left ≡ edited_part (r s) layout part k v = leaves.1 ∙ rw none in
+        (told.0, behind left (edited_part (r s) layout part k v) new ∙ part-edited (inside none) ∙ told.1)

@@ -3,9 +3,9 @@
 use Prim.Native.Nat.{ℕ, ◌-◌, ◌≤◌}
 use native.Mathlib.Omega.{arith}
 use mathlib.Core.Path.{◌≡◌, refl, sym, ◌∙◌, ap, ap₂}
-use mathlib.Core.List.{List, [], ◌∷◌, ◌++◌, append-nil}
-use lib.ListN.{length, get_or, take, drop, drop_of_length-le}
-use lib.Seq.{take_at, take-length, set-get_or}
+use mathlib.Core.List.{List, [], ◌∷◌, ◌++◌}
+use lib.ListN.{length, get_or, take, drop}
+use lib.Seq.{set-get_or}
 use Rattle.scrambler.specs.Scrambler.{Register}
 use Rattle.frames.specs.Frames.{sealed, body_in, clear_body}
 use Rattle.sealing.specs.Sealing.{opened_part, sealed_part}
@@ -20,20 +20,6 @@ module _ (r : Register) (sent : List ℕ) (h : 3 ≤ length sent) where
   abbrev opened : List ℕ
   opened = opened_part r sent
 
-  -- lent of a copy with more bytes behind
-  pub opened-lent : (copy behind : List ℕ) → copy ≡ opened → take (length sent - 0) (copy ++ behind) ≡ opened
-  opened-lent copy behind e =
-      take_at copy behind (length sent - 0) (ap length e ∙ length-opened r sent h ∙ omega arith) ∙ e
-
-  -- and copied over a part of its length
-  pub opened-copied : (copy behind to : List ℕ) → copy ≡ opened → length to ≡ length sent
-      → let from = take (length sent - 0) (copy ++ behind) in
-      take (length from) from ++ drop (length from) to ≡ opened
-  opened-copied copy behind to e same =
-      ap (λ (l : List ℕ). take (length l) l ++ drop (length l) to) (opened-lent copy behind e)
-      ∙ ap₂ ◌++◌ (take-length opened) (drop_of_length-le to {i = length opened} (omega (arith, same, length-opened r sent h)))
-      ∙ append-nil opened
-
   abbrev filled : List ℕ → List ℕ → List ℕ
   filled part ys = take 1 part ++ (ys ++ drop (length sent - 2 - 1) (drop 1 part))
 
@@ -44,7 +30,7 @@ module _ (r : Register) (sent : List ℕ) (h : 3 ≤ length sent) where
   opened-sealed part ys f is e keeps =
       let n = length sent - 2 - 1 in
       let lends : take n (drop 1 part) ≡ clear_body r sent =
-      ap (λ (l : List ℕ). take n (drop 1 l)) (is ∙ sym (append-nil opened)) ∙ body-told r sent [] h in
+      ap (λ (l : List ℕ). take n (drop 1 l)) is ∙ body-told r sent h in
       let new : ys ≡ f (clear_body r sent) = e ∙ ap f lends in
       let seen : filled part ys ≡ put opened ys =
       ap₂ (λ (l : List ℕ) (m : ℕ). take 1 l ++ (ys ++ drop m (drop 1 l))) is (ap (λ (m : ℕ). m - 2 - 1) (sym (length-opened r sent h))) in

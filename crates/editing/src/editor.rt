@@ -1,38 +1,33 @@
 // Editing: tests 2 to 7, 9, 13 and 11 in their order, and only then the frame is changed.
 ghost use Rattle.std.specs.Prelude.{◌≡◌, ◌≤◌, length};
 ghost use Rattle.scrambler.specs.Scrambler.{from};
-ghost use Rattle.satellites.specs.declared.Known.TheVariants.{Is};
-ghost use Rattle.refusals.specs.Tests.{refusal};
+ghost use Rattle.refusals.specs.Tests.{answer_by};
+ghost use Rattle.frames.specs.Answers.{written_in_numbers};
 ghost use Rattle.frames.specs.Editing.{editing, frame_after};
 ghost use Rattle.editing.specs.Changed.{field_tests, part_tests, part_after};
 
-use frames::Writing;
 use layouts::Layout;
+use refusals::Refusal;
 use satellites::Satellite;
 use scrambler::{FAR, NEAR, START};
 
-pub(crate) fn edit(satellite: Satellite, frame: &mut [u8], field: usize, value: u32) -> Writing
-    ensures value { result ≡ editing (Is satellite) frame.old field value }
-    ensures frame_after { frame.new ≡ frame_after (Is satellite) frame.old field value }
+pub(crate) fn edit(
+    satellite: Satellite,
+    frame: &mut [u8],
+    field: usize,
+    value: u32,
+) -> Result<usize, Refusal>
+    ensures value { written_in_numbers result ≡ editing (Some satellite) frame.old field value }
+    ensures frame_after { frame.new ≡ frame_after (Some satellite) frame.old field value }
 {
-    let front = fronts::whole(satellite, frame);
-    let number = front.refusal;
-    if number != refusals::ACCEPTED {
-        return Writing::refused(number, field);
-    }
-    let layout = front.layout;
-    let at = satellite.type_byte_at();
-    let number = change(NEAR, FAR, START, layout, field, value, &mut frame[at..]);
-    if number != refusals::ACCEPTED {
-        return Writing::refused(number, field);
-    }
-    Writing {
-        refusal: refusals::ACCEPTED,
-        answer: layout.frame,
-    }
+    let front = fronts::whole(satellite, frame)?;
+    let part = &mut frame[satellite.type_byte_at()..];
+    change(NEAR, FAR, START, front.layout, field, value, part)?;
+    Ok(front.layout.frame)
 }
 
-// Tests 9, 13 and 11 on what was sent from type byte to checksum; where they hold, the part takes the field's new value.
+// Tests 9, 13 and 11 on what was sent from type byte to checksum; where they hold, the part takes the field's new value. A copy is opened:
+// a refused part stays as it was sent. The distances and the start are numbers, as in `scrambler`.
 fn change(
     near: u32,
     far: u32,
@@ -41,61 +36,38 @@ fn change(
     field: usize,
     value: u32,
     part: &mut [u8],
-) -> u32
+) -> Result<(), Refusal>
     requires in_bounds { 3 ≤ length part.old }
     requires part_len_bound { length part.old ≤ 255 }
-    ensures value { result ≡ refusal (part_tests (from near far start) layout part.old field value) }
+    ensures value { result ≡ answer_by (part_tests (from near far start) layout part.old field value) field tt }
     ensures part_after { part.new ≡ part_after (from near far start) layout part.old field value }
 {
-    let mut copy = [0u8; sealing::MOST_BYTES];
-    change_by(near, far, start, layout, field, value, part, &mut copy)
-}
-
-// The same, with bytes to open a copy in: a refused part stays as it was sent.
-fn change_by(
-    near: u32,
-    far: u32,
-    start: u32,
-    layout: Layout,
-    field: usize,
-    value: u32,
-    part: &mut [u8],
-    copy: &mut [u8],
-) -> u32
-    requires in_bounds { 3 ≤ length part.old }
-    requires part_in_bounds { length part.old ≤ length copy.old }
-    ensures value { result ≡ refusal (part_tests (from near far start) layout part.old field value) }
-    ensures part_after { part.new ≡ part_after (from near far start) layout part.old field value }
-{
-    let n = part.len();
-    copy[0..n].copy_from_slice(part);
-    let sums = sealing::open(near, far, start, &mut copy[0..n]);
+    let mut bytes = [0u8; sealing::MOST_BYTES];
+    let copy = &mut bytes[..part.len()];
+    copy.copy_from_slice(part);
+    let sums = sealing::open(near, far, start, copy);
     if sums.sent != sums.computed {
-        return refusals::CHECKSUM;
+        return Err(Refusal::Checksum);
     }
-    let number = test_field(layout, field, value);
-    if number != refusals::ACCEPTED {
-        return number;
-    }
+    test_field(layout, field, value)?;
     let bit = layout.start(field);
     let width = layout.width(field);
-    let end = n - sealing::CHECKSUM_BYTES;
-    part.copy_from_slice(&copy[0..n]);
+    let end = part.len() - sealing::CHECKSUM_BYTES;
+    part.copy_from_slice(copy);
     bits::replace_field(&mut part[1..end], bit, width, value);
     sealing::seal(near, far, start, part);
-    refusals::ACCEPTED
+    Ok(())
 }
 
 // Tests 13 and 11: there is such a field, and the value fits it.
-fn test_field(layout: Layout, field: usize, value: u32) -> u32
-    ensures { result ≡ refusal (field_tests layout field value) }
+fn test_field(layout: Layout, field: usize, value: u32) -> Result<(), Refusal>
+    ensures { result ≡ answer_by (field_tests layout field value) field tt }
 {
-    let width = layout.width(field);
     if layout.fields <= field {
-        return refusals::FIELD;
+        return Err(Refusal::Field);
     }
-    if !bodies::fits(value, width) {
-        return refusals::VALUE;
+    if !bodies::fits(value, layout.width(field)) {
+        return Err(Refusal::Value(field));
     }
-    refusals::ACCEPTED
+    Ok(())
 }

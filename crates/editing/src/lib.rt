@@ -1,7 +1,7 @@
 // Editing one field of whole frames (01, "What is refused, and in which order"; FORMAT 3, 7 and 8).
 //
-// The call names the satellite by its number, answers for all input, and keeps nothing. What it cannot accept it refuses with the
-// paper's number, and a refused call leaves the frame as it was.
+// The call names the satellite by its number, answers for all input, and keeps nothing. What it cannot accept it refuses, and a refused
+// call leaves the frame as it was.
 #![tactic(auto)]
 
 mod editor;
@@ -9,20 +9,19 @@ mod editor;
 ghost use Rattle.std.specs.Prelude.{◌≡◌};
 ghost use Rattle.bits.specs.Bits.{Bytes};
 ghost use Rattle.satellites.specs.Satellites.{known};
+ghost use Rattle.frames.specs.Answers.{written_in_numbers};
 ghost use Rattle.frames.specs.Editing.{editing, frame_after};
 
-use frames::Writing;
-use satellites::{Known, Satellite};
+use refusals::Refusal;
+use satellites::Satellite;
 
-// Edits one field of a frame that this satellite sent: the frame with that field alone replaced takes the old one's place.
-// The last promise says that each element of the frame was a byte.
-pub fn edit(satellite: u32, frame: &mut [u8], field: usize, value: u32) -> Writing
-    ensures value { result ≡ editing (known satellite) frame.old field value }
+// Edits one field of a frame that this satellite sent: the frame with that field alone replaced takes the old one's place, and its length
+// is answered. The last promise says that each element of the frame was a byte.
+pub fn edit(satellite: u32, frame: &mut [u8], field: usize, value: u32) -> Result<usize, Refusal>
+    ensures value { written_in_numbers result ≡ editing (known satellite) frame.old field value }
     ensures frame_after { frame.new ≡ frame_after (known satellite) frame.old field value }
     ensures bytes { Bytes frame.old }
 {
-    match Satellite::from_number(satellite) {
-        Known::Is(named) => editor::edit(named, frame, field, value),
-        Known::Unknown => Writing::refused(refusals::SATELLITE, 0),
-    }
+    let satellite = Satellite::from_number(satellite).ok_or(Refusal::Satellite)?;
+    editor::edit(satellite, frame, field, value)
 }

@@ -11,7 +11,7 @@ use Rattle.bits.specs.Bits.{field}
 use Rattle.frames.specs.Registers.{Registers}
 use Rattle.frames.specs.Paper.{printed_of, body}
 use Rattle.satellites.specs.declared.Satellite.{Satellite}
-use Rattle.satellites.specs.declared.Known.TheVariants.{Is}
+use Rattle.std.specs.Prelude.{Some}
 use Rattle.layouts.specs.Layouts.{entry_of, first_behind_clock, width_at}
 use Rattle.layouts.proofs.Sensors.{fields-2, sensor-width, sensor-start}
 use Rattle.bodies.proofs.Laws.{fits-exactly}
@@ -26,7 +26,7 @@ module _ (r : Registers) (s : Satellite) (frame room : List ℕ) where
 
   -- the room as it is left
   abbrev left : List ℕ
-  left = room_after_by r (Is s) frame room
+  left = room_after_by r (Some s) frame room
 
   -- the ten codes
   abbrev pub codes : List ℕ
@@ -36,7 +36,7 @@ module _ (r : Registers) (s : Satellite) (frame room : List ℕ) where
   code_at : (k : ℕ) → k < 10 → get_or codes k 0 ≡ get_or left (first + k) 0
   code_at k h = get_or-take 10 (drop first left) k 0 h ∙ get_or-drop first left k 0
 
-  module _ (n : ℕ) (answer : reading_by r (Is s) frame room ≡ record { refusal = 0; ty = 2; count = n }) where
+  module _ (n : ℕ) (answer : reading_by r (Some s) frame room ≡ record { refusal = 0; ty = 2; count = n }) where
     -- the room's places that were filled are those ahead of the first temperature, and ten
     count : n ≡ first + 10
     count = (accepted-values r s frame room 2 n answer).0 ∙ fields-2 s

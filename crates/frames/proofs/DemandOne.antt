@@ -17,8 +17,7 @@ use lib.Dec.{eqb}
 use lib.ListN.{length, get_or, take, drop}
 use Rattle.checksum.specs.Checksum.{checksum}
 use Rattle.satellites.specs.declared.Satellite.{Satellite}
-use Rattle.satellites.specs.declared.Known.{Known}
-use Rattle.satellites.specs.declared.Known.TheVariants.{Is, Unknown}
+use Rattle.std.specs.Prelude.{Option, Some, None}
 use Rattle.satellites.specs.Satellites.{address_of, training_of, size_byte_of, type_byte_at}
 use Rattle.layouts.specs.Layouts.{carries, entry_of, width_at}
 use Rattle.refusals.specs.Tests.{Test, refusal, Iff, Said, says, Mean, Answered}
@@ -80,7 +79,7 @@ abbrev reading_said : Registers → Satellite → List ℕ → List ℕ → List
 reading_said r s frame room =
     let p = printed_of r s in says 1 (Unit {0}) ∷ (whole p frame ++ (roomy p frame room ∷ summed p frame ∷ []))
 
-reading-tests : (r : Registers) (s : Satellite) (frame room : List ℕ) → Mean (reading_tests r (Is s) frame room) (reading_said r s frame room)
+reading-tests : (r : Registers) (s : Satellite) (frame room : List ℕ) → Mean (reading_tests r (Some s) frame room) (reading_said r s frame room)
 unfolding reading_tests
 reading-tests r s frame room =
     let nine = checked r s frame [] [] (tt {0}) in
@@ -88,9 +87,9 @@ reading-tests r s frame room =
     its 1 always (whole-mean r s frame _ _ eight)
 
 pub reading-number : (r : Registers) (s : Satellite) (frame room : List ℕ)
-    → Answered (reading_by r (Is s) frame room).refusal (reading_said r s frame room)
+    → Answered (reading_by r (Some s) frame room).refusal (reading_said r s frame room)
 reading-number r s frame room =
-    number_of (reading_tests r (Is s) frame room) (reading_said r s frame room) (answers.reading-number r (Is s) frame room)
+    number_of (reading_tests r (Some s) frame room) (reading_said r s frame room) (answers.reading-number r (Some s) frame room)
     (reading-tests r s frame room)
 
 -- "Writing .. tests 1, 5, 10, 11, 12"
@@ -98,7 +97,7 @@ abbrev writing_said : Registers → Satellite → ℕ → List ℕ → List ℕ 
 writing_said r s t values output = says 1 (Unit {0}) ∷ wanted (printed_of r s) t values output
 
 writing-tests : (r : Registers) (s : Satellite) (t : ℕ) (values output : List ℕ)
-    → Mean (writing_tests (Is s) t values output) (writing_said r s t values output)
+    → Mean (writing_tests (Some s) t values output) (writing_said r s t values output)
 unfolding writing_tests
 writing-tests r s t values output =
     let ws = (entry_of s t).widths in
@@ -108,16 +107,16 @@ writing-tests r s t values output =
     its 1 always (its 5 (itself (carries s t)) ten)
 
 pub writing-number : (r : Registers) (s : Satellite) (t : ℕ) (values output : List ℕ)
-    → Answered (writing (Is s) t values output).refusal (writing_said r s t values output)
+    → Answered (writing (Some s) t values output).refusal (writing_said r s t values output)
 writing-number r s t values output =
-    number_of (writing_tests (Is s) t values output) (writing_said r s t values output) (answers.writing-number (Is s) t values output)
+    number_of (writing_tests (Some s) t values output) (writing_said r s t values output) (answers.writing-number (Some s) t values output)
     (writing-tests r s t values output)
 
 -- "Editing .. tests 1 to 7, 9, 13, 11"
 abbrev editing_said : Registers → Satellite → List ℕ → ℕ → ℕ → List Said
 editing_said r s frame k v = let p = printed_of r s in says 1 (Unit {0}) ∷ (whole p frame ++ (summed p frame ∷ fielded p frame k v))
 
-editing-tests : (r : Registers) (s : Satellite) (frame : List ℕ) (k v : ℕ) → Mean (editing_tests r (Is s) frame k v) (editing_said r s frame k v)
+editing-tests : (r : Registers) (s : Satellite) (frame : List ℕ) (k v : ℕ) → Mean (editing_tests r (Some s) frame k v) (editing_said r s frame k v)
 unfolding editing_tests
 editing-tests r s frame k v =
     let ws = (entry_in s frame).widths in
@@ -126,40 +125,40 @@ editing-tests r s frame k v =
     its 1 always (frame-mean r s frame _ _ thirteen)
 
 pub editing-number : (r : Registers) (s : Satellite) (frame : List ℕ) (k v : ℕ)
-    → Answered (editing_by r (Is s) frame k v).refusal (editing_said r s frame k v)
+    → Answered (editing_by r (Some s) frame k v).refusal (editing_said r s frame k v)
 editing-number r s frame k v =
-    number_of (editing_tests r (Is s) frame k v) (editing_said r s frame k v) (answers.editing-number r (Is s) frame k v)
+    number_of (editing_tests r (Some s) frame k v) (editing_said r s frame k v) (answers.editing-number r (Some s) frame k v)
     (editing-tests r s frame k v)
 
 -- of a satellite that is not named, all of them test that alone, and answer 1
 pub unnamed-number : (r : Registers) (m n : ℕ) (xs ys : List ℕ)
-    → ((reading_by r Unknown xs ys).refusal ≡ 1) × (((writing Unknown m xs ys).refusal ≡ 1) × ((editing_by r Unknown xs m n).refusal ≡ 1))
+    → ((reading_by r None xs ys).refusal ≡ 1) × (((writing None m xs ys).refusal ≡ 1) × ((editing_by r None xs m n).refusal ≡ 1))
 unfolding reading_tests writing_tests editing_tests refusal
 unnamed-number r m n xs ys =
-    (answers.reading-number r Unknown xs ys, (answers.writing-number Unknown m xs ys, answers.editing-number r Unknown xs m n))
+    (answers.reading-number r None xs ys, (answers.writing-number None m xs ys, answers.editing-number r None xs m n))
 
 -- ---- "and a refused call leaves every buffer handed to it untouched"
 
 -- "A refusal answers type 0, count 0"
-pub reading-refused : (r : Registers) (k : Known) (frame room : List ℕ) (n : ℕ) → (reading_by r k frame room).refusal ≡ n → n ≢ 0
+pub reading-refused : (r : Registers) (k : Option Satellite) (frame room : List ℕ) (n : ℕ) → (reading_by r k frame room).refusal ≡ n → n ≢ 0
     → (reading_by r k frame room ≡ record { refusal = n; ty = 0; count = 0 }) × (room_after_by r k frame room ≡ room)
 reading-refused = answers.reading-refused
 
 -- "A refusal answers 0, except 11"
-pub writing-refused : (r : Registers) (k : Known) (t : ℕ) (values output : List ℕ) (n : ℕ) → (writing k t values output).refusal ≡ n → n ≢ 0
+pub writing-refused : (r : Registers) (k : Option Satellite) (t : ℕ) (values output : List ℕ) (n : ℕ) → (writing k t values output).refusal ≡ n → n ≢ 0
     → (n ≢ 11 → writing k t values output ≡ record { refusal = n; answer = 0 }) × (output_after_by r k t values output ≡ output)
 writing-refused = answers.writing-refused
 
 -- "11, which answers the lowest field number that does not fit"
 pub writing-lowest : (s : Satellite) (t i : ℕ) (values output : List ℕ)
-    → writing (Is s) t values output ≡ record { refusal = 11; answer = i }
+    → writing (Some s) t values output ≡ record { refusal = 11; answer = i }
     → (i < length (entry_of s t).widths)
     × ((2 ^ width_at (entry_of s t).widths i ≤ get_or values i 0)
     × ((j : ℕ) → j < i → get_or values j 0 < 2 ^ width_at (entry_of s t).widths j))
 writing-lowest = answers.writing-lowest
 
 -- "a refusal answers 0, and 11 the field's number"
-pub editing-refused : (r : Registers) (s : Known) (frame : List ℕ) (k v n : ℕ) → (editing_by r s frame k v).refusal ≡ n → n ≢ 0
+pub editing-refused : (r : Registers) (s : Option Satellite) (frame : List ℕ) (k v n : ℕ) → (editing_by r s frame k v).refusal ≡ n → n ≢ 0
     → (n ≢ 11 → editing_by r s frame k v ≡ record { refusal = n; answer = 0 })
     × ((n ≡ 11 → editing_by r s frame k v ≡ record { refusal = n; answer = k }) × (frame_after_by r s frame k v ≡ frame))
 editing-refused = answers.editing-refused

@@ -11,7 +11,7 @@ use lib.ListN.{length, get_or, take, drop, replicate, length-drop}
 use Rattle.bits.specs.Bits.{field, Bytes}
 use Rattle.checksum.specs.Checksum.{checksum}
 use Rattle.satellites.specs.declared.Satellite.{Satellite}
-use Rattle.satellites.specs.declared.Known.TheVariants.{Is}
+use Rattle.std.specs.Prelude.{Some}
 use Rattle.satellites.specs.Satellites as satellites
 use Rattle.satellites.specs.Satellites.{address_of}
 use Rattle.satellites.proofs.Laws.{address-most}
@@ -19,13 +19,13 @@ use Rattle.layouts.specs.Layouts.{carries, entry_of, width_at, start_at}
 use Rattle.refusals.specs.Tests.{Iff}
 use Rattle.frames.specs.Registers.{Registers}
 use Rattle.frames.specs.Paper.{Printed, printed_of, carried, size, type_byte_at, part, type_byte, type_in, checksum_in, body}
-use Rattle.frames.specs.declared.Reading.{Reading}
+use Rattle.frames.specs.Answers.{Reading}
 use Rattle.frames.specs.Frames.{frame_of, clear_body, type_of}
 use Rattle.frames.specs.Reading.{accepted_by, reading_by, room_after_by}
 use Rattle.frames.specs.Writing.{writing, output_after_by}
 use Rattle.frames.proofs.Fronts as fronts
 use Rattle.frames.proofs.Wholes.{its-length, its-training, its-sync, its-type-byte, its-size-byte, its-checksum}
-use Rattle.frames.proofs.Accepted.{whole-right, was-whole, was-right, parts-right}
+use Rattle.frames.proofs.Acceptance.{whole-right, was-whole, was-right, parts-right}
 use Rattle.frames.proofs.Readings as readings
 use Rattle.frames.proofs.Readings.{read_as}
 use Rattle.frames.proofs.Answers as answers
@@ -104,27 +104,27 @@ module _ (r : Registers) (s : Satellite) (frame room : List ℕ) where
   pub given-room : accepted_by (r s) s frame ≡ true
       → let t = type_in (printed_of r s) frame in
       length (entry_of s t).widths ≤ length room
-      → reading_by r (Is s) frame room ≡ record { refusal = 0; ty = t; count = length (entry_of s t).widths }
+      → reading_by r (Some s) frame room ≡ record { refusal = 0; ty = t; count = length (entry_of s t).widths }
   given-room = readings.given-room r s frame room
 
   -- and reading accepts no other
-  pub read-accepted : (reading_by r (Is s) frame room).refusal ≡ 0 → accepted_by (r s) s frame ≡ true
+  pub read-accepted : (reading_by r (Some s) frame room).refusal ≡ 0 → accepted_by (r s) s frame ≡ true
   read-accepted e =
-      let a = reading_by r (Is s) frame room in
+      let a = reading_by r (Some s) frame room in
       let answer : a ≡ read_as a.ty a.count = λ i. record { refusal = e i; ty = a.ty; count = a.count } in
       whole-right (r s) s frame (answers.was-whole r s frame room a.ty a.count answer)
       (answers.was-right r s frame room a.ty a.count answer)
 
   -- so whatever is right is accepted, given room
   pub published-accepted : (t : ℕ) → Published (printed_of r s) t frame → length (entry_of s t).widths ≤ length room
-      → reading_by r (Is s) frame room ≡ record { refusal = 0; ty = t; count = length (entry_of s t).widths }
+      → reading_by r (Some s) frame room ≡ record { refusal = 0; ty = t; count = length (entry_of s t).widths }
   published-accepted t p roomy =
       let its = p.type-right in
       let count = ap (λ (u : ℕ). length (entry_of s u).widths) its in
       given-room ((accepted-exactly r s frame).1 (subst (λ u. Published (printed_of r s) u frame) (sym its) p)) (omega (arith, count, roomy))
       ∙ ap (λ (u : ℕ). read_as u (length (entry_of s u).widths)) its
 
-  module _ (t n : ℕ) (answer : reading_by r (Is s) frame room ≡ record { refusal = 0; ty = t; count = n }) where
+  module _ (t n : ℕ) (answer : reading_by r (Some s) frame room ≡ record { refusal = 0; ty = t; count = n }) where
     -- and whatever is accepted is right
     pub accepted-published : Published (printed_of r s) t frame
     accepted-published =
@@ -134,35 +134,35 @@ module _ (r : Registers) (s : Satellite) (frame room : List ℕ) where
     -- "Its values are the table's fields", as many as the table has; "later places stay"
     pub accepted-values : (n ≡ length (entry_of s t).widths)
         × (((i : ℕ) → i < n
-        → get_or (room_after_by r (Is s) frame room) i 0
+        → get_or (room_after_by r (Some s) frame room) i 0
         ≡ field (start_at (entry_of s t).widths i) (width_at (entry_of s t).widths i) (body (printed_of r s) frame))
-        × ((length (room_after_by r (Is s) frame room) ≡ length room) × (drop n (room_after_by r (Is s) frame room) ≡ drop n room)))
+        × ((length (room_after_by r (Some s) frame room) ≡ length room) × (drop n (room_after_by r (Some s) frame room) ≡ drop n room)))
     unfolding clear_body
     accepted-values = (sym (answers.its-count r s frame room t n answer), exact.room-told r s frame room t n answer)
 
     -- "Writing an accepted frame's values gives that frame again"; a lent frame holds bytes and nothing else
     pub accepted-rewritten : Bytes frame → (output : List ℕ) → length frame ≤ length output
-        → let values = take n (room_after_by r (Is s) frame room) in
-        (writing (Is s) t values output ≡ record { refusal = 0; answer = length frame })
-        × (output_after_by r (Is s) t values output ≡ frame ++ drop (length frame) output)
+        → let values = take n (room_after_by r (Some s) frame room) in
+        (writing (Some s) t values output ≡ record { refusal = 0; answer = length frame })
+        × (output_after_by r (Some s) t values output ≡ frame ++ drop (length frame) output)
     accepted-rewritten b output fills =
-        let values = take n (room_after_by r (Is s) frame room) in
+        let values = take n (room_after_by r (Some s) frame room) in
         let made = exact.written-alike r s frame room t n answer values output (exact.as_many r s frame room t n answer)
         (exact.all_fit r s frame room t n answer) fills in
         (made.0, made.1 ∙ ap (λ (l : List ℕ). l ++ drop (length frame) output) (exact.frame-of-values r s frame room t n answer b))
 
   -- so a number of 0 says that the frame is right, of the type that is answered
-  pub accepted-right : (reading_by r (Is s) frame room).refusal ≡ 0 → Published (printed_of r s) (reading_by r (Is s) frame room).ty frame
+  pub accepted-right : (reading_by r (Some s) frame room).refusal ≡ 0 → Published (printed_of r s) (reading_by r (Some s) frame room).ty frame
   accepted-right e =
-      let a = reading_by r (Is s) frame room in
+      let a = reading_by r (Some s) frame room in
       accepted-published a.ty a.count (λ i. record { refusal = e i; ty = a.ty; count = a.count })
 
 module _ (r : Registers) (s : Satellite) (t n : ℕ) (values output : List ℕ)
-    (answer : writing (Is s) t values output ≡ record { refusal = 0; answer = n }) where
+    (answer : writing (Some s) t values output ≡ record { refusal = 0; answer = n }) where
   -- "It answers the length and fills that many bytes; bytes past the frame's end stay"
   pub written : (n ≡ type_byte_at (printed_of r s) + size (printed_of r s) t)
-      × (Published (printed_of r s) t (take n (output_after_by r (Is s) t values output))
-      × ((length (output_after_by r (Is s) t values output) ≡ length output) × (drop n (output_after_by r (Is s) t values output) ≡ drop n output)))
+      × (Published (printed_of r s) t (take n (output_after_by r (Some s) t values output))
+      × ((length (output_after_by r (Some s) t values output) ≡ length output) × (drop n (output_after_by r (Some s) t values output) ≡ drop n output)))
   written = (
     sym (answers.its-frame r s t values output n answer),
     (
@@ -174,9 +174,9 @@ module _ (r : Registers) (s : Satellite) (t n : ℕ) (values output : List ℕ)
 
   -- "and reading a written frame gives the values back"
   pub written-reread : (room : List ℕ) → length values ≤ length room
-      → let frame = take n (output_after_by r (Is s) t values output) in
-      (reading_by r (Is s) frame room ≡ record { refusal = 0; ty = t; count = length values })
-      × (room_after_by r (Is s) frame room ≡ values ++ drop (length values) room)
+      → let frame = take n (output_after_by r (Some s) t values output) in
+      (reading_by r (Some s) frame room ≡ record { refusal = 0; ty = t; count = length values })
+      × (room_after_by r (Some s) frame room ≡ values ++ drop (length values) room)
   written-reread room enough =
       exact.reread r s t n values output answer room enough
       (published-accepted r s (frame_of (r s) s t values) room t (frame-published r s t values (exact.was-carried r s t n values output answer)))

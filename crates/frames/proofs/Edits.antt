@@ -11,9 +11,9 @@ use lib.ListN.{length}
 use borrow.Author.Tests.{ne_eqb, lt-ltb}
 use Rattle.frames.specs.Registers.{Registers}
 use Rattle.satellites.specs.declared.Satellite.{Satellite}
-use Rattle.satellites.specs.declared.Known.TheVariants.{Is}
+use Rattle.std.specs.Prelude.{Some}
 use Rattle.layouts.specs.Layouts.{width_at}
-use Rattle.frames.specs.declared.Writing.{Writing}
+use Rattle.frames.specs.Answers.{Writing}
 use Rattle.refusals.specs.Tests.{Test, test, refusal}
 use Rattle.frames.specs.Frames.{from_type_byte, type_of, entry_in}
 use Rattle.frames.specs.Reading.{checksum_right, checksum_test, whole_tests, frame_tests}
@@ -24,11 +24,11 @@ use Rattle.frames.proofs.Fronts.{whole-passes}
 
 module _ (r : Registers) (s : Satellite) (frame : List ℕ) (k v : ℕ) where
   abbrev number : ℕ
-  number = refusal (editing_tests r (Is s) frame k v)
+  number = refusal (editing_tests r (Some s) frame k v)
 
   -- an answer, and the frame that is left
   abbrev pub Answers : Writing → List ℕ → Type 0
-  Answers a left = (a ≡ editing_by r (Is s) frame k v) × (left ≡ frame_after_by r (Is s) frame k v)
+  Answers a left = (a ≡ editing_by r (Some s) frame k v) × (left ≡ frame_after_by r (Some s) frame k v)
 
   pub refused-with : (n : ℕ) → number ≡ n → n ≢ 0 → Answers (refused_writing n k) frame
   unfolding editing_by frame_after_by

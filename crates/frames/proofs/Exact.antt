@@ -11,7 +11,7 @@ use borrow.Author.Tests.{leb-true, eqb-true}
 use Rattle.bits.specs.Bits.{bits_of, field, Bytes}
 use Rattle.frames.specs.Registers.{Registers}
 use Rattle.satellites.specs.declared.Satellite.{Satellite}
-use Rattle.satellites.specs.declared.Known.TheVariants.{Is}
+use Rattle.std.specs.Prelude.{Some}
 use Rattle.layouts.specs.Layouts.{carries, entry_of, width_at, start_at}
 use Rattle.bodies.specs.Bodies.{told, fitting}
 use Rattle.bodies.proofs.Laws.{length-told, told_at, fitting-told}
@@ -34,7 +34,7 @@ module _ (r : Registers) (s : Satellite) (frame room : List ℕ) where
 
   -- ---- what an accepting answer tells
 
-  module _ (t n : ℕ) (answer : reading_by r (Is s) frame room ≡ read_as t n) where
+  module _ (t n : ℕ) (answer : reading_by r (Some s) frame room ≡ read_as t n) where
     typed : type_of s frame ≡ t
     typed = answers.its-type r s frame room t n answer
 
@@ -58,7 +58,7 @@ module _ (r : Registers) (s : Satellite) (frame room : List ℕ) where
     abbrev field_at : ℕ → ℕ
     field_at i = field (start_at (entry_of s t).widths i) (width_at (entry_of s t).widths i) (clear_body (r s) part)
 
-    value-at : (i : ℕ) → i < n → get_or (room_after_by r (Is s) frame room) i 0 ≡ field_at i
+    value-at : (i : ℕ) → i < n → get_or (room_after_by r (Some s) frame room) i 0 ≡ field_at i
     unfolding field values_of
     value-at i h =
         ap (λ (l : List ℕ). get_or l i 0) (answers.its-room r s frame room t n answer)
@@ -66,19 +66,19 @@ module _ (r : Registers) (s : Satellite) (frame room : List ℕ) where
         ∙ told_at (entry_in s frame).widths (bits_of (clear_body (r s) part)) i (omega (arith, h, count))
         ∙ ap (λ (u : ℕ). field (start_at (entry_of s u).widths i) (width_at (entry_of s u).widths i) (clear_body (r s) part)) typed
 
-    room-length : length (room_after_by r (Is s) frame room) ≡ length room
+    room-length : length (room_after_by r (Some s) frame room) ≡ length room
     room-length =
         ap length (answers.its-room r s frame room t n answer)
         ∙ length-append (values_of (r s) s frame) (drop n room) ∙ omega (arith, values_length, enough, length-drop n room)
 
-    room-behind : drop n (room_after_by r (Is s) frame room) ≡ drop n room
+    room-behind : drop n (room_after_by r (Some s) frame room) ≡ drop n room
     room-behind = ap (drop n) (answers.its-room r s frame room t n answer) ∙ drop_at (values_of (r s) s frame) (drop n room) n values_length
 
-    pub room-told : ((i : ℕ) → i < n → get_or (room_after_by r (Is s) frame room) i 0 ≡ field_at i)
-        × ((length (room_after_by r (Is s) frame room) ≡ length room) × (drop n (room_after_by r (Is s) frame room) ≡ drop n room))
+    pub room-told : ((i : ℕ) → i < n → get_or (room_after_by r (Some s) frame room) i 0 ≡ field_at i)
+        × ((length (room_after_by r (Some s) frame room) ≡ length room) × (drop n (room_after_by r (Some s) frame room) ≡ drop n room))
     room-told = (value-at, (room-length, room-behind))
 
-    pub values-read : take n (room_after_by r (Is s) frame room) ≡ told (entry_of s t).widths (bits_of (clear_body (r s) part))
+    pub values-read : take n (room_after_by r (Some s) frame room) ≡ told (entry_of s t).widths (bits_of (clear_body (r s) part))
     unfolding values_of
     values-read =
         ap (take n) (answers.its-room r s frame room t n answer)
@@ -86,7 +86,7 @@ module _ (r : Registers) (s : Satellite) (frame room : List ℕ) where
         ∙ ap (λ (u : ℕ). told (entry_of s u).widths (bits_of (clear_body (r s) part))) typed
 
     abbrev values : List ℕ
-    values = take n (room_after_by r (Is s) frame room)
+    values = take n (room_after_by r (Some s) frame room)
 
     -- its type and its values make it again
     of_values : frame_of (r s) s t values ≡ frame_of (r s) s (type_of s frame) (values_of (r s) s frame)
@@ -114,17 +114,17 @@ module _ (r : Registers) (s : Satellite) (frame room : List ℕ) where
     pub its-length : length frame ≡ frame_length s t
     its-length = fronts.is_whole s frame whole ∙ ap (frame_length s) typed
 
-    pub as_many : length (take n (room_after_by r (Is s) frame room)) ≡ length (entry_of s t).widths
+    pub as_many : length (take n (room_after_by r (Some s) frame room)) ≡ length (entry_of s t).widths
     as_many = ap length values-read ∙ length-told (entry_of s t).widths (bits_of (clear_body (r s) part))
 
-    pub all_fit : fitting (entry_of s t).widths (take n (room_after_by r (Is s) frame room)) ≡ length (entry_of s t).widths
+    pub all_fit : fitting (entry_of s t).widths (take n (room_after_by r (Some s) frame room)) ≡ length (entry_of s t).widths
     all_fit = ap (fitting (entry_of s t).widths) values-read ∙ fitting-told (entry_of s t).widths (bits_of (clear_body (r s) part))
 
     -- values that fit its type, written into an output that it fits
     pub written-alike : (values output : List ℕ) → length values ≡ length (entry_of s t).widths
         → fitting (entry_of s t).widths values ≡ length (entry_of s t).widths → length frame ≤ length output
-        → (writing (Is s) t values output ≡ wrote_as (length frame))
-        × (output_after_by r (Is s) t values output ≡ frame_of (r s) s t values ++ drop (length frame) output)
+        → (writing (Some s) t values output ≡ wrote_as (length frame))
+        × (output_after_by r (Some s) t values output ≡ frame_of (r s) s t values ++ drop (length frame) output)
     written-alike values output many fit fills =
         let none = writings.none-fails r s t values output its-carried many fit (omega (arith, fills, its-length)) in
         let made = writings.accepted-with r s t values output none in (
@@ -135,7 +135,7 @@ module _ (r : Registers) (s : Satellite) (frame room : List ℕ) where
 -- ---- a frame that was written
 
 module _ (r : Registers) (s : Satellite) (t n : ℕ) (values output : List ℕ)
-    (answer : writing (Is s) t values output ≡ wrote_as n) where
+    (answer : writing (Some s) t values output ≡ wrote_as n) where
   abbrev written : List ℕ
   written = frame_of (r s) s t values
 
@@ -161,13 +161,13 @@ module _ (r : Registers) (s : Satellite) (t n : ℕ) (values output : List ℕ)
   written-length : length written ≡ n
   written-length = wholes.its-length (r s) s t was-carried values ∙ answers.its-frame r s t values output n answer
 
-  pub output-front : take n (output_after_by r (Is s) t values output) ≡ written
+  pub output-front : take n (output_after_by r (Some s) t values output) ≡ written
   output-front = ap (take n) (answers.its-output r s t values output n answer) ∙ take_at written (drop n output) n written-length
 
-  pub output-behind : drop n (output_after_by r (Is s) t values output) ≡ drop n output
+  pub output-behind : drop n (output_after_by r (Some s) t values output) ≡ drop n output
   output-behind = ap (drop n) (answers.its-output r s t values output n answer) ∙ drop_at written (drop n output) n written-length
 
-  pub output-length : length (output_after_by r (Is s) t values output) ≡ length output
+  pub output-length : length (output_after_by r (Some s) t values output) ≡ length output
   output-length =
       ap length (answers.its-output r s t values output n answer)
       ∙ length-append written (drop n output)
@@ -175,16 +175,16 @@ module _ (r : Registers) (s : Satellite) (t n : ℕ) (values output : List ℕ)
 
   -- read again, where reading accepts it
   pub reread : (room : List ℕ) → length values ≤ length room
-      → (length ws ≤ length room → reading_by r (Is s) written room ≡ read_as t (length ws))
-      → let frame = take n (output_after_by r (Is s) t values output) in
-      (reading_by r (Is s) frame room ≡ read_as t (length values))
-      × (room_after_by r (Is s) frame room ≡ values ++ drop (length values) room)
+      → (length ws ≤ length room → reading_by r (Some s) written room ≡ read_as t (length ws))
+      → let frame = take n (output_after_by r (Some s) t values output) in
+      (reading_by r (Some s) frame room ≡ read_as t (length values))
+      × (room_after_by r (Some s) frame room ≡ values ++ drop (length values) room)
   unfolding values_of
   reread room roomy accepts =
       let read = accepts (omega (arith, were-as-many, roomy)) in
       let its = answers.its-type r s written room t (length ws) read in (
-        ap (λ (f : List ℕ). reading_by r (Is s) f room) output-front ∙ read ∙ ap (read_as t) (sym were-as-many),
-        ap (λ (f : List ℕ). room_after_by r (Is s) f room) output-front
+        ap (λ (f : List ℕ). reading_by r (Some s) f room) output-front ∙ read ∙ ap (read_as t) (sym were-as-many),
+        ap (λ (f : List ℕ). room_after_by r (Some s) f room) output-front
             ∙ answers.its-room r s written room t (length ws) read
             ∙ ap₂ (λ (l : List ℕ) (m : ℕ). l ++ drop m room)
             (ap (λ (u : ℕ). told (entry_of s u).widths (bits_of (clear_body (r s) (from_type_byte s written)))) its

@@ -16,7 +16,7 @@ use Rattle.scrambler.specs.declared.Direction.TheVariants.{Unscramble}
 use Rattle.scrambler.proofs.Parts.{length-answer}
 use Rattle.satellites.specs.declared.Satellite.{Satellite}
 use Rattle.satellites.specs.Satellites.{address_of, training_of, size_byte_of, type_byte_at}
-use Rattle.layouts.specs.Layouts.{total, carries, layout_of}
+use Rattle.layouts.specs.Layouts.{total, carries}
 use Rattle.layouts.proofs.Entries.{tiles-body}
 use Rattle.refusals.specs.Tests.{Test, test, refusal, holding, Iff}
 use Rattle.frames.specs.Frames.{training, sync, ahead, type_byte, frame_length}
@@ -26,7 +26,7 @@ use Rattle.refusals.proofs.Tests.{goes, none_left, numbered, Numbered, holds-num
 use Rattle.refusals.proofs.Says.{equal, same_bytes, both, only-where}
 use Rattle.frames.proofs.Parts.{length-body}
 use Rattle.frames.proofs.Preambles.{is-ahead}
-use Rattle.frames.proofs.Sizes.{three-least, told-length}
+use Rattle.frames.proofs.Sizes.{three-least}
 
 -- the byte at a place, and the first of those from there on
 pub first-at : (n : ℕ) (l : List ℕ) → get_or (drop n l) 0 0 ≡ get_or l n 0
@@ -60,15 +60,11 @@ module _ (s : Satellite) (frame : List ℕ) where
 
   -- test 7, behind them
   module _ (front : refusal (front_tests s frame) ≡ 0) where
-    pub its-frame : (layout_of s (type_of s frame)).frame ≡ frame_length s (type_of s frame)
-    unfolding front_tests holding
-    its-frame = told-length s (type_of s frame) (holds-numbered (front_tests s frame) front-numbered front 5)
-
-    pub whole-holds : length frame ≡ (layout_of s (type_of s frame)).frame → refusal (whole_tests s frame) ≡ 0
+    pub whole-holds : length frame ≡ frame_length s (type_of s frame) → refusal (whole_tests s frame) ≡ 0
     unfolding whole_tests
     whole-holds as_long =
         behind-held (front_tests s frame) _ front-numbered front
-        ∙ goes 7 _ [] (eq-eqb (length frame) (frame_length s (type_of s frame)) (as_long ∙ its-frame))
+        ∙ goes 7 _ [] (eq-eqb (length frame) (frame_length s (type_of s frame)) as_long)
         ∙ none_left
 
   pub whole-numbered : Numbered (whole_tests s frame)

@@ -6,7 +6,7 @@ pub mod Small
 mod Says
 pub mod Fronts
 pub mod Trained
-pub mod Accepted
+pub mod Acceptance
 pub mod Readings
 pub mod Writings
 mod Seals
@@ -21,5 +21,5 @@ pub mod DemandTwo
 pub mod DemandThree
 pub mod Codes
 pub mod Temperatures
-pub mod Determined
-pub mod Contracts
+pub mod Told
+pub mod Given

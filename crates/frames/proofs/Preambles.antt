@@ -1,32 +1,15 @@
 -- What stands ahead of the type byte.
 -- Assumes nothing.
-use Prim.Native.Nat.{ℕ, zero, suc, ◌+◌, ◌-◌, ◌≤◌}
-use native.Mathlib.Nat.{le_of_suc-le-suc, not-suc-le-zero}
+use Prim.Native.Nat.{ℕ, ◌+◌, ◌-◌, ◌≤◌}
 use native.Mathlib.Omega.{arith}
 use mathlib.Core.Path.{◌≡◌, refl, sym, ◌∙◌, ap, ap₂}
 use mathlib.Core.Bool.{Bool, true, false, cond}
 use mathlib.Core.List.{List, [], ◌∷◌, ◌++◌, append_assoc}
-use lib.ListN.{length, length-append, get_or, take, drop, replicate, length-replicate}
+use lib.ListN.{length, length-append, get_or, take, drop, length-replicate}
 use lib.Seq.{take-add, drop-cons}
 use Rattle.satellites.specs.declared.Satellite.{Satellite}
 use Rattle.satellites.specs.Satellites.{training_of, size_byte_of, type_byte_at}
-use Rattle.satellites.proofs.Laws.{training-most}
 use Rattle.frames.specs.Frames.{training, sync, size_byte, ahead, size_in}
-
--- the longest training
-abbrev pub sixteen : List ℕ
-sixteen = replicate 16 0xAA
-
-take-replicate : (n m x : ℕ) → n ≤ m → take n (replicate m x) ≡ replicate n x
-take-replicate zero m x h = refl
-take-replicate (suc n) zero x h = absurd (not-suc-le-zero h)
-take-replicate (suc n) (suc m) x h = ap (λ (r : List ℕ). x ∷ r) (take-replicate n m x (le_of_suc-le-suc h))
-
--- a satellite's is as much of it as the satellite has
-pub training-taken : (s : Satellite) (n : ℕ) → n ≡ training_of s → take (n - 0) sixteen ≡ training s
-training-taken s n its =
-    let all : n - 0 ≡ training_of s = omega (arith, its) in
-    rw all (take-replicate (training_of s) 16 0xAA (training-most s))
 
 pub length-ahead : (s : Satellite) (size : ℕ) → length (ahead s size) ≡ type_byte_at s
 length-ahead s size =

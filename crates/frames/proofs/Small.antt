@@ -9,15 +9,13 @@ use lib.Dec.{eqb}
 use lib.ListN.{length}
 use Rattle.frames.specs.Registers.{Registers}
 use Rattle.satellites.specs.declared.Satellite.{Satellite}
-use Rattle.satellites.specs.declared.Known.{Known}
-use Rattle.satellites.specs.declared.Known.TheVariants.{Is, Unknown}
+use Rattle.std.specs.Prelude.{Option, Some, None}
 use Rattle.satellites.proofs.Laws.{type-byte-most}
 use Rattle.layouts.specs.Layouts.{carries, entry_of, most_fields}
 use Rattle.layouts.proofs.Entries.{fields-most, size-most, no-entry}
 use Rattle.bodies.specs.Bodies.{fitting}
 use Rattle.bodies.proofs.Laws.{fitting-below}
-use Rattle.frames.specs.declared.Reading.{Reading}
-use Rattle.frames.specs.declared.Writing.{Writing}
+use Rattle.frames.specs.Answers.{Reading, Writing}
 use Rattle.refusals.specs.Tests.{refusal}
 use Rattle.frames.specs.Frames.{frame_length, type_of}
 use Rattle.frames.specs.Reading.{reading_by, reading_tests, accepted_reading, refused_reading}
@@ -42,16 +40,16 @@ frame-short s t = go (carries s t) refl
     go true carried = omega (arith, type-byte-most s, size-most s t carried)
     go false other = rw (no-entry s t other) (omega (arith, type-byte-most s))
 
-reading_small : (r : Registers) (k : Known) (frame room : List ℕ) → (reading_by r k frame room).count ≤ most_fields
+reading_small : (r : Registers) (k : Option Satellite) (frame room : List ℕ) → (reading_by r k frame room).count ≤ most_fields
 unfolding reading_by
-reading_small r Unknown frame room = omega arith
-reading_small r (Is s) frame room = go (eqb (refusal (reading_tests r (Is s) frame room)) 0) (refusal (reading_tests r (Is s) frame room))
+reading_small r None frame room = omega arith
+reading_small r (Some s) frame room = go (eqb (refusal (reading_tests r (Some s) frame room)) 0) (refusal (reading_tests r (Some s) frame room))
   where
     go : (b : Bool) (number : ℕ) → (cond b (accepted_reading s frame) (refused_reading number)).count ≤ most_fields
     go true number = fields-few s (type_of s frame)
     go false number = omega arith
 
-pub count_small : (r : Registers) (k : Known) (frame room : List ℕ) {told : Reading} → told ≡ reading_by r k frame room
+pub count_small : (r : Registers) (k : Option Satellite) (frame room : List ℕ) {told : Reading} → told ≡ reading_by r k frame room
     → told.count ≤ most_fields
 count_small r k frame room e = subst (λ (told : Reading). told.count ≤ most_fields) (sym e) (reading_small r k frame room)
 
@@ -68,31 +66,31 @@ answer-small : (s : Satellite) (t number field most : ℕ) (accepted : Bool) →
 answer-small s t number field most true frames fields = omega (arith, frame-short s t)
 answer-small s t number field most false frames fields = refused-small number field most fields
 
-writing-small : (k : Known) (t : ℕ) (values output : List ℕ) → (writing k t values output).answer ≤ most_bytes
+writing-small : (k : Option Satellite) (t : ℕ) (values output : List ℕ) → (writing k t values output).answer ≤ most_bytes
 unfolding writing
-writing-small Unknown t values output = refused-small (refusal (writing_tests Unknown t values output)) 0 most_bytes zero-le
-writing-small (Is s) t values output =
-    let number = refusal (writing_tests (Is s) t values output) in
+writing-small None t values output = refused-small (refusal (writing_tests None t values output)) 0 most_bytes zero-le
+writing-small (Some s) t values output =
+    let number = refusal (writing_tests (Some s) t values output) in
     let ws = (entry_of s t).widths in
     let fields : fitting ws values ≤ most_bytes = omega (arith, fitting-below ws values, fields-few s t) in
     answer-small s t number (fitting ws values) most_bytes (eqb number 0) (omega arith) fields
 
-pub written_small : (k : Known) (t : ℕ) (values output : List ℕ) {told : Writing} → told ≡ writing k t values output
+pub written_small : (k : Option Satellite) (t : ℕ) (values output : List ℕ) {told : Writing} → told ≡ writing k t values output
     → told.answer ≤ most_bytes
 written_small k t values output e =
     subst (λ (told : Writing). told.answer ≤ most_bytes) (sym e) (writing-small k t values output)
 
 -- in editing, the field that is told is the caller's own number
-editing-small : (r : Registers) (k : Known) (frame : List ℕ) (field v most : ℕ) → most_bytes ≤ most → field ≤ most
+editing-small : (r : Registers) (k : Option Satellite) (frame : List ℕ) (field v most : ℕ) → most_bytes ≤ most → field ≤ most
     → (editing_by r k frame field v).answer ≤ most
 unfolding editing_by
-editing-small r Unknown frame field v most frames fields =
-    refused-small (refusal (editing_tests r Unknown frame field v)) field most fields
-editing-small r (Is s) frame field v most frames fields =
-    let number = refusal (editing_tests r (Is s) frame field v) in
+editing-small r None frame field v most frames fields =
+    refused-small (refusal (editing_tests r None frame field v)) field most fields
+editing-small r (Some s) frame field v most frames fields =
+    let number = refusal (editing_tests r (Some s) frame field v) in
     answer-small s (type_of s frame) number field most (eqb number 0) frames fields
 
-pub edited-small : (r : Registers) (k : Known) (frame : List ℕ) (field v : ℕ) {told : Writing} (most : ℕ) → most_bytes ≤ most
+pub edited-small : (r : Registers) (k : Option Satellite) (frame : List ℕ) (field v : ℕ) {told : Writing} (most : ℕ) → most_bytes ≤ most
     → field ≤ most → told ≡ editing_by r k frame field v → told.answer ≤ most
 edited-small r k frame field v most frames fields e =
     subst (λ (told : Writing). told.answer ≤ most) (sym e) (editing-small r k frame field v most frames fields)

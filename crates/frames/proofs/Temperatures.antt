@@ -6,7 +6,7 @@ use mathlib.Core.Path.{◌≡◌}
 use mathlib.Core.List.{List}
 use lib.ListN.{get_or}
 use Rattle.satellites.specs.declared.Satellite.{Satellite}
-use Rattle.satellites.specs.declared.Known.TheVariants.{Is}
+use Rattle.std.specs.Prelude.{Some}
 use Rattle.temperatures.specs.Readings.{answering, values_in}
 use Rattle.temperatures.specs.Summaries.{day_of}
 use Rattle.temperatures.proofs.Paper.{accepted-code, accepted-day}
@@ -15,7 +15,7 @@ use Rattle.frames.specs.Reading.{reading_by}
 use Rattle.frames.proofs.Codes.{codes, ten-codes, codes-fit}
 
 module _ (r : Registers) (s : Satellite) (frame room : List ℕ) (n : ℕ)
-    (answer : reading_by r (Is s) frame room ≡ record { refusal = 0; ty = 2; count = n }) where
+    (answer : reading_by r (Some s) frame room ≡ record { refusal = 0; ty = 2; count = n }) where
   pub each_read : (k : ℕ) → k < 10 → (values_in (answering (get_or (codes r s frame room) k 0))).number ≡ 0
   each_read k h = accepted-code (get_or (codes r s frame room) k 0) (codes-fit r s frame room n answer k h)
 

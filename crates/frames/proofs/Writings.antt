@@ -11,10 +11,10 @@ use lib.ListN.{length, drop}
 use borrow.Author.Tests.{eq-eqb, ne_eqb, le-leb}
 use Rattle.frames.specs.Registers.{Registers}
 use Rattle.satellites.specs.declared.Satellite.{Satellite}
-use Rattle.satellites.specs.declared.Known.TheVariants.{Is}
+use Rattle.std.specs.Prelude.{Some}
 use Rattle.layouts.specs.Layouts.{carries, entry_of}
 use Rattle.bodies.specs.Bodies.{fitting}
-use Rattle.frames.specs.declared.Writing.{Writing}
+use Rattle.frames.specs.Answers.{Writing}
 use Rattle.refusals.specs.Tests.{test, refusal}
 use Rattle.frames.specs.Frames.{frame_of, frame_length}
 use Rattle.frames.specs.Writing.{writing_tests, accepted_writing, refused_writing, writing, output_after_by}
@@ -26,7 +26,7 @@ wrote_as n = record { refusal = 0; answer = n }
 
 module _ (r : Registers) (s : Satellite) (t : ℕ) (values output : List ℕ) where
   abbrev number : ℕ
-  number = refusal (writing_tests (Is s) t values output)
+  number = refusal (writing_tests (Some s) t values output)
 
   abbrev lowest : ℕ
   lowest = fitting (entry_of s t).widths values
@@ -36,15 +36,15 @@ module _ (r : Registers) (s : Satellite) (t : ℕ) (values output : List ℕ) wh
 
   -- what a number means
   abbrev pub Refuses : ℕ → Type 0
-  Refuses k = (refused_writing k lowest ≡ writing (Is s) t values output) × (output ≡ output_after_by r (Is s) t values output)
+  Refuses k = (refused_writing k lowest ≡ writing (Some s) t values output) × (output ≡ output_after_by r (Some s) t values output)
 
   pub refused-with : (k : ℕ) → number ≡ k → (k ≡ 0 → ⊥) → Refuses k
   unfolding writing output_after_by
   refused-with k e some = let no = ne_eqb k 0 some in (rw (e, no), rw (e, no))
 
   pub accepted-with : number ≡ 0
-      → (accepted_writing s t ≡ writing (Is s) t values output)
-      × (frame_of (r s) s t values ++ drop (frame_length s t) output ≡ output_after_by r (Is s) t values output)
+      → (accepted_writing s t ≡ writing (Some s) t values output)
+      × (frame_of (r s) s t values ++ drop (frame_length s t) output ≡ output_after_by r (Some s) t values output)
   unfolding writing output_after_by
   accepted-with e = (rw e, rw e)
 

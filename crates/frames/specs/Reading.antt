@@ -1,13 +1,11 @@
 -- Reading (01, "What is refused, and in which order"; FORMAT 7 and 8): the tests in their order, the answer, and the room.
-use Rattle.std.specs.Prelude.{ℕ, Bool, true, false, not, ◌&&◌, ◌||◌, cond, List, [], ◌∷◌, ◌++◌, length, take, drop, eqb, leb, ltb}
+use Rattle.std.specs.Prelude.{ℕ, Bool, true, false, not, ◌&&◌, ◌||◌, cond, List, [], ◌∷◌, ◌++◌, length, take, drop, eqb, leb, ltb, Option, Some, None}
 use Rattle.checksum.specs.Checksum.{checksum}
 use Rattle.scrambler.specs.Scrambler.{Register}
 use Rattle.satellites.specs.declared.Satellite.{Satellite}
-use Rattle.satellites.specs.declared.Known.{Known}
-use Rattle.satellites.specs.declared.Known.TheVariants.{Is, Unknown}
 use Rattle.satellites.specs.Satellites.{address_of, training_of, size_byte_of, type_byte_at}
 use Rattle.layouts.specs.Layouts.{carries}
-use Rattle.frames.specs.declared.Reading.{Reading}
+use Rattle.frames.specs.Answers.{Reading}
 use Rattle.refusals.specs.Tests.{Test, test, refusal, same}
 use Rattle.frames.specs.Registers.{Registers, register_of}
 use Rattle.frames.specs.Frames.{training, sync, frame_length}
@@ -68,9 +66,9 @@ accepted s frame = accepted_by (register_of s) s frame
 
 -- "Reading (satellite, frame, room of 32-bit numbers) tests 1 to 9 in that order": 1, "satellite number above 6", is what
 -- the number names
-unfoldable pub reading_tests : Registers → Known → List ℕ → List ℕ → List Test
-reading_tests r Unknown frame room = test 1 false ∷ []
-reading_tests r (Is s) frame room =
+unfoldable pub reading_tests : Registers → Option Satellite → List ℕ → List ℕ → List Test
+reading_tests r None frame room = test 1 false ∷ []
+reading_tests r (Some s) frame room =
     test 1 true ∷ (whole_tests s frame ++ (room_test s frame room ∷ checksum_test (r s) s frame ∷ []))
 
 -- "It answers the number, the type and the field count"
@@ -81,23 +79,23 @@ accepted_reading s frame = record { refusal = 0; ty = type_of s frame; count = l
 abbrev pub refused_reading : ℕ → Reading
 refused_reading number = record { refusal = number; ty = 0; count = 0 }
 
-unfoldable pub reading_by : Registers → Known → List ℕ → List ℕ → Reading
-reading_by r Unknown frame room = refused_reading (refusal (reading_tests r Unknown frame room))
-reading_by r (Is s) frame room =
-    let number = refusal (reading_tests r (Is s) frame room) in
+unfoldable pub reading_by : Registers → Option Satellite → List ℕ → List ℕ → Reading
+reading_by r None frame room = refused_reading (refusal (reading_tests r None frame room))
+reading_by r (Some s) frame room =
+    let number = refusal (reading_tests r (Some s) frame room) in
     cond (eqb number 0) (accepted_reading s frame) (refused_reading number)
 
 -- "and fills that many places of the room; later places stay"
-unfoldable pub room_after_by : Registers → Known → List ℕ → List ℕ → List ℕ
-room_after_by r Unknown frame room = room
-room_after_by r (Is s) frame room =
-    cond (eqb (refusal (reading_tests r (Is s) frame room)) 0)
+unfoldable pub room_after_by : Registers → Option Satellite → List ℕ → List ℕ → List ℕ
+room_after_by r None frame room = room
+room_after_by r (Some s) frame room =
+    cond (eqb (refusal (reading_tests r (Some s) frame room)) 0)
     (values_of (r s) s frame ++ drop (length (entry_in s frame).widths) room)
     room
 
 -- the two that the contract of reading cites, with the satellite's register
-abbrev pub reading : Known → List ℕ → List ℕ → Reading
+abbrev pub reading : Option Satellite → List ℕ → List ℕ → Reading
 reading k frame room = reading_by register_of k frame room
 
-abbrev pub room_after : Known → List ℕ → List ℕ → List ℕ
+abbrev pub room_after : Option Satellite → List ℕ → List ℕ → List ℕ
 room_after k frame room = room_after_by register_of k frame room

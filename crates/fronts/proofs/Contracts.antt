@@ -4,32 +4,56 @@
 use Prim.Native.Nat.{◌+◌, ◌/◌}
 use mathlib.Core.Path.{◌≡◌}
 use mathlib.Core.Bool.{cond}
-use mathlib.Core.List.{[], ◌∷◌, ◌++◌}
+use mathlib.Core.List.{List, [], ◌∷◌, ◌++◌}
 use lib.Dec.{eqb}
 use lib.ListN.{length, get_or, drop, replicate}
 use Rattle.satellites.specs.Satellites.{training_of, size_byte_of, type_byte_at}
-use Rattle.layouts.specs.Layouts.{layout_of}
-use Rattle.refusals.specs.Tests.{refusal}
+use Rattle.std.specs.Prelude.{Result, Ok, Err, IfOk, IfErr}
+use Rattle.layouts.specs.Layouts.{entry_of, laid_out}
+use Rattle.refusals.specs.Refusals.{number_of}
+use Rattle.refusals.specs.declared.Refusal.{Refusal}
+use Rattle.refusals.specs.Tests.{Test, refusal, answer_by}
+use Rattle.refusals.proofs.Answered.{Named, ok-told, err-told}
 use Rattle.frames.specs.Frames.{type_of}
 use Rattle.frames.specs.Reading.{front_tests, whole_tests}
+use Rattle.fronts.specs.declared.Front.{Front}
+use Rattle.fronts.specs.Fronts.{front_in}
+use Rattle.fronts.proofs.Told.{front-named, whole-named}
 use Rattle.fronts.proofs.of.Reads as front
 use Rattle.fronts.proofs.whole.Reads as whole
 use Rattle.fronts.proofs.type_sent.Reads as type-sent
 use Rattle.fronts.proofs.preamble.write.Reads as write
 
--- the number of the first of tests 2 to 6 that fails, the type, and its layout
+-- a result by some tests, in numbers
+numbers : (value : Front) (ts : List Test) → Named ts → (r : Result Front Refusal) → r ≡ answer_by ts 0 value
+    → IfOk r (λ _. refusal ts ≡ 0) × IfErr r (λ e. number_of e ≡ refusal ts)
+numbers value ts names (Ok x) told = ((ok-told 0 value ts x told).0, tt)
+numbers value ts names (Err e) told = (tt, (err-told 0 value ts names e told).0)
+
+-- the type and its layout, or the refusal of the first of tests 2 to 6 that fails
 pub of-says : (κs a r s : _) → front.Post κs a r s
     → let frame = a.1.0.now in
-    (r ≡ record { refusal = refusal (front_tests a.0 frame); ty = type_of a.0 frame; layout = layout_of a.0 (type_of a.0 frame) })
-    × (s.1.0.now ≡ frame)
+    let entry = entry_of a.0 (type_of a.0 frame) in
+    (r ≡ answer_by (front_tests a.0 frame) 0 (record { ty = type_of a.0 frame; layout = laid_out a.0 entry })) × (s.1.0.now ≡ frame)
 of-says κs a r s p = p
 
 -- of tests 2 to 7
 pub whole_says : (κs a r s : _) → whole.Post κs a r s
     → let frame = a.1.0.now in
-    (r ≡ record { refusal = refusal (whole_tests a.0 frame); ty = type_of a.0 frame; layout = layout_of a.0 (type_of a.0 frame) })
-    × (s.1.0.now ≡ frame)
+    let entry = entry_of a.0 (type_of a.0 frame) in
+    (r ≡ answer_by (whole_tests a.0 frame) 0 (record { ty = type_of a.0 frame; layout = laid_out a.0 entry })) × (s.1.0.now ≡ frame)
 whole_says κs a r s p = p
+
+-- a refusal has the number of that test, and the number is 0 where there is none
+pub of-number : (κs a r s : _) → front.Post κs a r s
+    → let number = refusal (front_tests a.0 a.1.0.now) in
+    IfOk r (λ _. number ≡ 0) × IfErr r (λ e. number_of e ≡ number)
+of-number κs a r s p = numbers (front_in a.0 a.1.0.now) (front_tests a.0 a.1.0.now) (front-named a.0 a.1.0.now) r p.0
+
+pub whole-number : (κs a r s : _) → whole.Post κs a r s
+    → let number = refusal (whole_tests a.0 a.1.0.now) in
+    IfOk r (λ _. number ≡ 0) × IfErr r (λ e. number_of e ≡ number)
+whole-number κs a r s p = numbers (front_in a.0 a.1.0.now) (whole_tests a.0 a.1.0.now) (whole-named a.0 a.1.0.now) r p.0
 
 -- "type in the high four bits"
 pub type-sent-says : (κs a r s : _) → type-sent.Post κs a r s

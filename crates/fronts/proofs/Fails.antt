@@ -1,22 +1,25 @@
--- Tests 2 to 7: which of them fails first.
+-- Tests 2 to 7: what is answered where one of them fails first, and where none does.
 -- Assumes nothing.
 use Prim.{⊥}
 use Prim.Native.Nat.{ℕ}
-use mathlib.Core.Path.{◌≡◌, sym, ◌∙◌, ap, ap₂}
-use mathlib.Core.Logic.{◌≢◌}
+use mathlib.Core.Path.{◌≡◌, refl, sym, ◌∙◌, ap, ap₂}
 use mathlib.Core.Bool.{Bool, true, false, not, ◌||◌}
-use mathlib.Core.List.{List, []}
+use mathlib.Core.List.{List}
 use lib.Dec.{eqb}
 use lib.ListN.{length}
 use borrow.Author.Tests.{eq-eqb, ne_eqb}
+use Rattle.std.specs.Prelude.{Result, Ok, Err}
 use Rattle.satellites.specs.declared.Satellite.{Satellite}
 use Rattle.satellites.specs.Satellites.{size_byte_of}
-use Rattle.layouts.specs.Layouts.{layout_of}
-use Rattle.refusals.specs.Tests.{refusal}
+use Rattle.refusals.specs.declared.Refusal.{Refusal}
+use Rattle.refusals.specs.declared.Refusal.TheVariants.{Short, Preamble, Address, NotCarried, Size, Length}
+use Rattle.refusals.specs.Tests.{answer_by}
+use Rattle.refusals.proofs.Answered.{ok-told, behind-value, behind-refusal}
 use Rattle.frames.specs.Frames.{frame_length, size_in, type_of, entry_in}
 use Rattle.frames.specs.Reading.{front_tests, whole_tests}
-use Rattle.refusals.proofs.Tests.{stops, goes, behind-held, behind-failed}
-use Rattle.frames.proofs.Fronts.{long, preamble, addressed, carried, sized, front-numbered, its-frame}
+use Rattle.frames.proofs.Fronts.{long, preamble, addressed, carried, sized}
+use Rattle.fronts.specs.declared.Front.{Front}
+use Rattle.fronts.specs.Fronts.{front_in, front_of}
 
 module _ (s : Satellite) (frame : List ℕ) where
   -- test 6, by whether there is a size byte
@@ -24,44 +27,72 @@ module _ (s : Satellite) (frame : List ℕ) where
   size-differs has other =
       ap₂ (λ (b d : Bool). not b || d) has (ne_eqb (size_in s frame) (entry_in s frame).size other)
 
-  pub size-agrees : size_byte_of s ≡ true → size_in s frame ≡ (entry_in s frame).size → sized s frame ≡ true
-  size-agrees has same_size =
-      ap₂ (λ (b d : Bool). not b || d) has (eq-eqb (size_in s frame) (entry_in s frame).size same_size)
+  pub size-agrees : size_in s frame ≡ (entry_in s frame).size → sized s frame ≡ true
+  size-agrees same_size =
+      ap (λ (d : Bool). not (size_byte_of s) || d) (eq-eqb (size_in s frame) (entry_in s frame).size same_size) ∙ either (size_byte_of s)
+    where
+      either : (b : Bool) → not b || true ≡ true
+      either true = refl
+      either false = refl
 
   pub no-size-byte : size_byte_of s ≡ false → sized s frame ≡ true
   no-size-byte none = ap (λ (b : Bool). not b || eqb (size_in s frame) (entry_in s frame).size) none
 
+  abbrev pub answered : Result Front Refusal → Type 0
+  answered result = result ≡ front_of (front_tests s frame) s frame
+
   -- each that fails first
-  pub fails-2 : long s frame ≡ false → refusal (front_tests s frame) ≡ 2
-  unfolding front_tests
-  fails-2 e = stops 2 _ _ e
+  pub fails-2 : long s frame ≡ false → answered (Err Short)
+  unfolding front_tests answer_by
+  fails-2 e = rw e
 
-  pub fails-3 : long s frame ≡ true → preamble s frame ≡ false → refusal (front_tests s frame) ≡ 3
-  unfolding front_tests
-  fails-3 a e = goes 2 _ _ a ∙ stops 3 _ _ e
+  pub fails-3 : long s frame ≡ true → preamble s frame ≡ false → answered (Err Preamble)
+  unfolding front_tests answer_by
+  fails-3 a e = rw (a, e)
 
-  pub fails-4 : long s frame ≡ true → preamble s frame ≡ true → addressed s frame ≡ false → refusal (front_tests s frame) ≡ 4
-  unfolding front_tests
-  fails-4 a b e = goes 2 _ _ a ∙ goes 3 _ _ b ∙ stops 4 _ _ e
+  pub fails-4 : long s frame ≡ true → preamble s frame ≡ true → addressed s frame ≡ false → answered (Err Address)
+  unfolding front_tests answer_by
+  fails-4 a b e = rw (a, b, e)
 
-  pub fails-5 : long s frame ≡ true → preamble s frame ≡ true → addressed s frame ≡ true → carried s frame ≡ false
-      → refusal (front_tests s frame) ≡ 5
-  unfolding front_tests
-  fails-5 a b c e = goes 2 _ _ a ∙ goes 3 _ _ b ∙ goes 4 _ _ c ∙ stops 5 _ _ e
+  -- tests 2 to 4 hold
+  abbrev pub Addressed : Type 0
+  Addressed = (long s frame ≡ true) × ((preamble s frame ≡ true) × (addressed s frame ≡ true))
 
-  pub fails-6 : long s frame ≡ true → preamble s frame ≡ true → addressed s frame ≡ true → carried s frame ≡ true
-      → sized s frame ≡ false → refusal (front_tests s frame) ≡ 6
-  unfolding front_tests
-  fails-6 a b c d e = goes 2 _ _ a ∙ goes 3 _ _ b ∙ goes 4 _ _ c ∙ goes 5 _ _ d ∙ stops 6 _ _ e
+  pub fails-5 : Addressed → carried s frame ≡ false → answered (Err NotCarried)
+  unfolding front_tests answer_by
+  fails-5 a e = rw (a.0, a.1.0, a.1.1, e)
+
+  pub fails-6 : Addressed → carried s frame ≡ true → sized s frame ≡ false → answered (Err Size)
+  unfolding front_tests answer_by
+  fails-6 a d e = rw (a.0, a.1.0, a.1.1, d, e)
+
+  -- and where none fails
+  pub passes : Addressed → carried s frame ≡ true → sized s frame ≡ true → answered (Ok (front_in s frame))
+  unfolding front_tests answer_by
+  passes a d e = rw (a.0, a.1.0, a.1.1, d, e)
+
+  -- what is told of an accepted front
+  pub is-front : (front : Front) → answered (Ok front) → (front ≡ front_in s frame) × answered (Ok (front_in s frame))
+  is-front front e =
+      let its = (ok-told 0 (front_in s frame) (front_tests s frame) front e).1 in (its, ap Ok (sym its) ∙ e)
 
   -- test 7, behind them
-  pub front-refused : refusal (front_tests s frame) ≢ 0 → refusal (whole_tests s frame) ≡ refusal (front_tests s frame)
-  unfolding whole_tests
-  front-refused some = behind-failed (front_tests s frame) _ some
+  abbrev pub answered-whole : Result Front Refusal → Type 0
+  answered-whole result = result ≡ front_of (whole_tests s frame) s frame
 
-  pub fails-7 : refusal (front_tests s frame) ≡ 0
-      → (length frame ≡ (layout_of s (type_of s frame)).frame → ⊥) → refusal (whole_tests s frame) ≡ 7
+  pub front-refused : (refusal : Refusal) → answered (Err refusal) → answered-whole (Err refusal)
   unfolding whole_tests
-  fails-7 front other =
-      behind-held (front_tests s frame) _ (front-numbered s frame) front
-      ∙ stops 7 _ [] (ne_eqb (length frame) (frame_length s (type_of s frame)) (λ e. other (e ∙ sym (its-frame s frame front))))
+  front-refused refusal e = sym (behind-refusal 0 (front_in s frame) (front_tests s frame) _ refusal (sym e))
+
+  module _ (front : answered (Ok (front_in s frame))) where
+    pub fails-7 : (length frame ≡ frame_length s (type_of s frame) → ⊥) → answered-whole (Err Length)
+    unfolding whole_tests answer_by
+    fails-7 other =
+        sym (behind-value 0 (front_in s frame) (front_tests s frame) _ (sym front)
+        ∙ rw (ne_eqb (length frame) (frame_length s (type_of s frame)) other))
+
+    pub whole-passes : length frame ≡ frame_length s (type_of s frame) → answered-whole (Ok (front_in s frame))
+    unfolding whole_tests answer_by
+    whole-passes long =
+        sym (behind-value 0 (front_in s frame) (front_tests s frame) _ (sym front)
+        ∙ rw (eq-eqb (length frame) (frame_length s (type_of s frame)) long))

@@ -3,14 +3,13 @@
 use Prim.Native.Nat.{ℕ, ◌+◌, ◌-◌}
 use native.Mathlib.Omega.{arith}
 use mathlib.Core.Path.{◌≡◌, sym, ◌∙◌, ap, ap₂}
-use mathlib.Core.Bool.{Bool, true, false, cond}
+use mathlib.Core.Bool.{Bool, true, cond}
 use mathlib.Core.List.{List, [], ◌∷◌, ◌++◌, append_assoc}
-use lib.ListN.{length, length-append, take, drop, set, length-drop, length-replicate, drop_of_length-le}
+use lib.ListN.{length, length-append, take, drop, set, length-drop, length-replicate, replicate}
 use lib.Seq.{take_at, drop_at, set_at}
 use Rattle.satellites.specs.declared.Satellite.{Satellite}
 use Rattle.satellites.specs.Satellites.{training_of, size_byte_of, type_byte_at}
 use Rattle.frames.specs.Frames.{training, sync}
-use Rattle.frames.proofs.Preambles.{sixteen, training-taken}
 use Rattle.fronts.specs.Fronts.{front_after}
 use Rattle.fronts.proofs.Filled.{front-filled}
 
@@ -31,15 +30,13 @@ module _ (s : Satellite) (n : ℕ) (its : n ≡ training_of s) (p : List ℕ) (l
 
   -- the part as it is once training and sync are copied
   module _ (p1 ys : List ℕ)
-      (first : p1 ≡ take (n - 0) sixteen ++ drop (n - 0) p)
+      (first : p1 ≡ replicate n 0xAA ++ drop n p)
       (second_is : ys ≡ sync) where
     as_long : length (training s) ≡ n
     as_long = length-replicate (training_of s) 0xAA ∙ sym its
 
     first-is : p1 ≡ training s ++ drop n p
-    first-is =
-        let all : n - 0 ≡ n = omega arith in
-        first ∙ ap (λ (l : List ℕ). l ++ drop (n - 0) p) (training-taken s n its) ∙ ap (λ (k : ℕ). training s ++ drop k p) all
+    first-is = first ∙ ap (λ (k : ℕ). replicate k 0xAA ++ drop n p) its
 
     behind-is : drop n p1 ≡ drop n p
     behind-is = ap (drop n) first-is ∙ drop_at (training s) (drop n p) n as_long
@@ -49,15 +46,6 @@ module _ (s : Satellite) (n : ℕ) (its : n ≡ training_of s) (p : List ℕ) (l
         let two : n + 2 - n ≡ 2 = omega arith in
         let front = ap (take n) first-is ∙ take_at (training s) (drop n p) n as_long in
         rw (two, behind-is, second_is) (ap (λ (l : List ℕ). l ++ (sync ++ drop 2 (drop n p))) front)
-
-    -- with no size byte, that is all
-    pub whole : (size : ℕ) → size_byte_of s ≡ false → over n p1 ys ≡ front_after s size p
-    whole size none =
-        joined
-        ∙ ap (λ (l : List ℕ). training s ++ (sync ++ l))
-        (drop_of_length-le (drop n p) {i = 2} (rw length-drop (omega (arith, length-by false none))))
-        ∙ sym (ap (λ (b : Bool). training s ++ (sync ++ cond b (size ∷ []) [])) none)
-        ∙ sym (front-filled s size p long)
 
     pub sized : (size : ℕ) → size_byte_of s ≡ true → set (over n p1 ys) (n + 2) size ≡ front_after s size p
     sized size has =

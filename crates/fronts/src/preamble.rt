@@ -1,6 +1,6 @@
 // What comes before the type byte (01, "From antenna order to bytes"; FORMAT 3): training, sync, and a size byte where there is one.
 // The reader compares these bytes, and the writer writes them.
-ghost use Rattle.std.specs.Prelude.{◌≡◌, ◌≤◌, length};
+ghost use Rattle.std.specs.Prelude.{◌≡◌, ◌≤◌, ◌↔◌, length, slice_index, EachIndex, IsTrue};
 ghost use Rattle.satellites.specs.Satellites.{type_byte_at};
 ghost use Rattle.frames.specs.Reading.{preambled};
 ghost use Rattle.fronts.specs.Fronts.{front_after};
@@ -18,12 +18,14 @@ pub(crate) fn is_right(satellite: Satellite, frame: &[u8]) -> bool
     requires { type_byte_at satellite ≤ length frame.now }
     ensures { result ≡ preambled satellite frame.now }
 {
-    let n = satellite.training();
-    let training = [TRAINING; Satellite::LONG_TRAINING];
-    if frame[0..n] == training[0..n] {
-        return &frame[n..n + Satellite::SYNC_BYTES] == SYNC.as_slice();
-    }
-    false
+    let (training, behind) = frame.split_at(satellite.training());
+    is_training(training) && behind.starts_with(&SYNC)
+}
+
+fn is_training(bytes: &[u8]) -> bool
+    ensures { IsTrue result ↔ EachIndex bytes.now (λ k. slice_index bytes.now k ≡ 0xAA) }
+{
+    bytes.iter().all(|&byte| byte == TRAINING)
 }
 
 // Fills a part that is as long as what comes before the type byte. A part of another length stays as it is.
@@ -34,8 +36,7 @@ pub fn write(satellite: Satellite, size: u8, part: &mut [u8])
         return;
     }
     let n = satellite.training();
-    let training = [TRAINING; Satellite::LONG_TRAINING];
-    part[0..n].copy_from_slice(&training[0..n]);
+    part[..n].fill(TRAINING);
     part[n..n + Satellite::SYNC_BYTES].copy_from_slice(&SYNC);
     if satellite.has_size_byte() {
         part[n + Satellite::SYNC_BYTES] = size;

@@ -1,17 +1,15 @@
--- Nothing is lost and nothing comes twice: a line, its end and what is unread behind it are what was unread.
+-- Nothing is lost and nothing comes twice: a line, its end and what is left behind it are what came.
 -- Assumes nothing.
-use Prim.Native.Nat.{ℕ, suc, ◌+◌, min}
-use native.Mathlib.Omega.{arith}
+use Prim.Native.Nat.{ℕ, suc}
+use native.Mathlib.Numerals.{add-one}
 use mathlib.Core.Path.{◌≡◌, refl, ap}
 use mathlib.Core.Bool.{Bool, true, false, false≢true}
 use mathlib.Core.List.{List, [], ◌∷◌, ◌++◌}
-use borrow.Author.Tests.{eqb-true, ltb-true}
+use borrow.Author.Tests.{eqb-true}
 use lib.Dec.{eqb, ltb, leb-suc-suc}
-use lib.ListN.{length, take, drop, length-take, length-drop}
-use lib.Seq.{drop-drop}
-use Rattle.pages.specs.Places.{slice, index_of, index_after}
-use Rattle.input.specs.declared.Place.{Place}
-use Rattle.input.specs.Lines.{start_of, end_of, unread, has_end, line_of, behind}
+use lib.ListN.{length, take, drop}
+use Rattle.pages.specs.Places.{index_of, index_after}
+use Rattle.input.specs.Lines.{Came, has_end, line_of, behind}
 
 -- a text in which there is an end: the bytes ahead of the first, the end, and the bytes behind it
 first-end : (xs : List ℕ) → ltb (index_of 10 xs) (length xs) ≡ true → xs ≡ take (index_of 10 xs) xs ++ 10 ∷ drop (suc (index_of 10 xs)) xs
@@ -26,16 +24,6 @@ first-end (x ∷ xs) t = go (eqb x 10) refl (first-end xs) t
     go true e rest t = ap (λ (y : ℕ). y ∷ xs) (eqb-true x 10 e)
     go false e rest t = ap (λ (ys : List ℕ). x ∷ ys) (rest (rw (leb-suc-suc (suc (index_of 10 xs)) (length xs)) at t))
 
--- the unread bytes are the line, its end, and what is unread behind it
-pub line_taken : (part : List ℕ) (place : Place) → has_end part place ≡ true
-    → unread part place ≡ line_of part place ++ 10 ∷ unread part (behind part place)
-unfolding slice
-line_taken part place t =
-    let i = index_of 10 (unread part place) in
-    let here = ltb-true i (length (unread part place)) t in
-    let long = length-take i (unread part place) in
-    let size = length-drop (start_of part place) (take (end_of part place) part) in
-    let all = length-take (end_of part place) part in
-    let end : end_of part (behind part place) ≡ end_of part place = omega arith in
-    let from : min (behind part place).at (end_of part place) ≡ start_of part place + suc i = omega (arith, here, long, size, all) in
-    rw (end, from, ← drop-drop (suc i) (start_of part place) (take (end_of part place) part)) (first-end (unread part place) t)
+-- the bytes that came are the line, its end, and what is left behind it
+pub line_taken : (came : Came) → has_end came ≡ true → came.bytes ≡ line_of came ++ 10 ∷ (behind came).bytes
+line_taken came t = rw (add-one (index_of 10 came.bytes)) (first-end came.bytes t)

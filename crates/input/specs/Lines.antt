@@ -1,49 +1,42 @@
 -- The next line, where nothing has to be read for it: its end is among the bytes that were read already, or no more come.
-use Rattle.std.specs.Prelude.{ℕ, ◌+◌, min, Bool, true, cond, ◌||◌, List, length, take, ltb}
-use Rattle.pages.specs.Places.{slice, index_of}
-use Rattle.input.specs.declared.Place.{Place}
-use Rattle.input.specs.declared.Line.{Line}
-use Rattle.input.specs.declared.Found.TheVariants.{Whole, TooLong, End}
+use Rattle.std.specs.Prelude.{ℕ, ◌+◌, min, Bool, cond, ◌||◌, List, length, take, drop, ltb, Option, Some, None, Result, Ok, Err}
+use Rattle.std.specs.List.{between}
+use Rattle.pages.specs.Places.{index_of}
+use Rattle.input.specs.declared.TooLong.{TooLong}
 
--- where the unread bytes end, and where they begin; of a place outside the part, what lies inside
-abbrev pub end_of : List ℕ → Place → ℕ
-end_of part place = min place.end (length part)
+-- the bytes that were read and are not taken yet, and whether no more come
+pub record Came : Type 0 where
+  pub bytes : List ℕ
+  pub ended : Bool
 
-abbrev pub start_of : List ℕ → Place → ℕ
-start_of part place = min place.at (end_of part place)
+-- the bytes of a part from one place up to another; of places outside the part, those that lie inside
+abbrev pub unread : List ℕ → ℕ → ℕ → List ℕ
+unread part at end = between (min at (min end (length part))) (min end (length part)) part
 
-abbrev pub unread : List ℕ → Place → List ℕ
-unread part place = slice (start_of part place) (end_of part place) part
-
--- a line's end, of which the code is 10, is among the unread bytes
-abbrev pub has_end : List ℕ → Place → Bool
-has_end part place = ltb (index_of 10 (unread part place)) (length (unread part place))
+-- a line's end, of which the code is 10, is among the bytes
+abbrev pub has_end : Came → Bool
+has_end came = ltb (index_of 10 came.bytes) (length came.bytes)
 
 -- nothing has to be read
-abbrev pub ready : List ℕ → Place → Bool
-ready part place = has_end part place || place.ended
+abbrev pub ready : Came → Bool
+ready came = has_end came || came.ended
 
--- the unread bytes ahead of the line's end; all of them where there is none
-abbrev pub line_of : List ℕ → Place → List ℕ
-line_of part place = take (index_of 10 (unread part place)) (unread part place)
+-- the bytes ahead of the line's end; all of them where there is none
+abbrev pub line_of : Came → List ℕ
+line_of came = take (index_of 10 came.bytes) came.bytes
 
--- the place behind the line's end
-abbrev pub behind : List ℕ → Place → Place
-behind part place = record { at = start_of part place + length (line_of part place) + 1; end = end_of part place; ended = place.ended }
+-- what is left behind the line and its end
+abbrev pub behind : Came → Came
+behind came = record { bytes = drop (index_of 10 came.bytes + 1) came.bytes; ended = came.ended }
 
--- no byte is left, and no more come
-abbrev pub over : Place
-over = record { at = 0; end = 0; ended = true }
-
--- the answer for a room of so many letters, a line of so many, and the place behind it
-abbrev pub answer : ℕ → ℕ → Place → Line
-answer room letters place = record { found = cond (ltb room letters) TooLong Whole; letters = min room letters; place = place }
+-- the answer for a room of so many letters, and a line of so many
+abbrev pub answer : ℕ → ℕ → Result ℕ TooLong
+answer room letters = cond (ltb room letters) (Err (record {})) (Ok letters)
 
 -- the last line, which has no end; where it has no letters, it is none
-abbrev pub last_of : ℕ → ℕ → Line
-last_of room letters = cond (ltb 0 letters) (answer room letters over) (record { found = End; letters = 0; place = over })
+abbrev pub last_of : ℕ → ℕ → Option (Result ℕ TooLong)
+last_of room letters = cond (ltb 0 letters) (Some (answer room letters)) None
 
 -- the answer where nothing has to be read
-abbrev pub found : ℕ → List ℕ → Place → Line
-found room part place =
-    cond (has_end part place) (answer room (length (line_of part place)) (behind part place)) (last_of room (length (line_of part place)))
+abbrev pub found : ℕ → Came → Option (Result ℕ TooLong)
+found room came = cond (has_end came) (Some (answer room (length (line_of came)))) (last_of room (length (line_of came)))

@@ -6,6 +6,7 @@ use mathlib.Core.Path.{◌≡◌}
 use mathlib.Core.Bool.{cond}
 use mathlib.Core.List.{◌++◌}
 use lib.ListN.{length, get_or, take, replicate}
+use Rattle.std.proofs.Common.{Some, None}
 use Rattle.satellites.specs.Satellites.{type_byte_at}
 use Rattle.layouts.specs.Layouts.{carries, entry_of, total}
 use Rattle.layouts.proofs.of.Reads as layout
@@ -14,14 +15,14 @@ use Rattle.layouts.proofs.Layout.start.Reads as start
 use Rattle.layouts.proofs.Layout.first_behind_clock.Reads as first-behind-clock
 
 pub of-says : (κs a r s : _) → layout.Post κs a r s
-    → r ≡ record {
-      carried = carries a.0 a.1.0;
+    → r ≡ cond (carries a.0 a.1.0)
+    (Some (record {
       fields = length (entry_of a.0 a.1.0).widths;
       size = (entry_of a.0 a.1.0).size;
-      frame = cond (carries a.0 a.1.0) (type_byte_at a.0 + (entry_of a.0 a.1.0).size) 0;
+      frame = type_byte_at a.0 + (entry_of a.0 a.1.0).size;
       clock = (entry_of a.0 a.1.0).clock;
       widths = (entry_of a.0 a.1.0).widths ++ replicate (95 - length (entry_of a.0 a.1.0).widths) 0;
-    }
+    })) None
 of-says κs a r s p = p
 
 pub width-says : (κs a r s : _) → width.Post κs a r s → r ≡ get_or a.0.widths a.1.0 0

@@ -6,7 +6,6 @@ pub mod Sensors
 pub mod Paper
 pub mod Contracts
 pub mod Determined
-mod Told
-mod Kept
-mod Unrolled
 mod Found
+mod Unrolled
+mod Told

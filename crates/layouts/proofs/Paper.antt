@@ -4,12 +4,12 @@
 use mathlib.Core.Path.{◌≡◌, refl}
 use Rattle.satellites.specs.Satellites.{seven}
 use Rattle.layouts.specs.Layouts.{among, carried_by, counted, found, table}
-use Rattle.layouts.specs.Paper.{field_tables, printed_table, lines}
+use Rattle.layouts.specs.Paper.{field_tables, printed_table, lines, lines_of}
 
 pub fields-as-printed : table ≡ field_tables
 unfolding table counted
 fields-as-printed = refl
 
 pub as-printed : lines seven ≡ printed_table
-unfolding lines table counted among carried_by found
+unfolding lines lines_of table counted among carried_by found
 as-printed = refl

@@ -1,15 +1,17 @@
 -- Where fields stand: each begins where the one before ends, and so every bit of the body lies in exactly one of them.
 -- Assumes nothing.
-use Prim.Native.Nat.{ℕ, zero, suc, ◌+◌, ◌-◌, ◌≤◌, ◌<◌}
+use Prim.Native.Nat.{ℕ, zero, suc, ◌+◌, ◌-◌, ◌*◌, ◌≤◌, ◌<◌}
 use native.Mathlib.Nat.{not-suc-le-zero}
 use native.Mathlib.Omega.{arith}
-use mathlib.Core.Path.{◌≡◌, refl, ap}
+use mathlib.Core.Path.{◌≡◌, refl, ◌∙◌, ap}
 use mathlib.Core.Bool.{Bool, true, false}
 use mathlib.Core.List.{List, [], ◌∷◌}
 use lib.Dec.{ltb}
-use lib.ListN.{length}
+use lib.ListN.{length, get_or, take}
 use lib.Seq.{take_all}
 use borrow.Author.Tests.{ltb-true, ltb-false}
+use Rattle.std.specs.List.{sum_by}
+use Rattle.std.proofs.lemmas.List.Sums.{sum_by-cons}
 use Rattle.layouts.specs.Layouts.{total, width_at, start_at}
 
 -- a field begins where the one before ends
@@ -19,6 +21,22 @@ start-next [] zero = refl
 start-next [] (suc k) = refl
 start-next (w ∷ ws) zero = omega arith
 start-next (w ∷ ws) (suc k) = omega (arith, start-next ws k)
+
+-- that is the sum of the widths ahead
+pub start-sum : (ws : List ℕ) (k : ℕ) → sum_by (λ w. w) (take k ws) ≡ start_at ws k
+unfolding total
+start-sum ws k = total-sum (take k ws)
+  where
+    total-sum : (ws : List ℕ) → sum_by (λ w. w) ws ≡ total ws
+    total-sum [] = refl
+    total-sum (w ∷ ws) = sum_by-cons (λ w. w) w ws ∙ ap (λ n. w + n) (total-sum ws)
+
+-- and small where each width is a byte
+pub start-small : (ws : List ℕ) (k : ℕ) → ((j : ℕ) → get_or ws j 0 < 256) → start_at ws k ≤ 255 * length ws
+unfolding total
+start-small ws zero small = omega arith
+start-small [] (suc k) small = omega arith
+start-small (w ∷ ws) (suc k) small = omega (arith, small 0, start-small ws k (λ j. small (suc j)))
 
 -- past the last field stands the body's end
 pub start-past : (ws : List ℕ) (k : ℕ) → length ws ≤ k → start_at ws k ≡ total ws

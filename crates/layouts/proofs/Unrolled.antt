@@ -1,44 +1,20 @@
 -- Widths one after another, as the code fills them in.
 -- Assumes nothing.
-use Prim.Native.Nat.{ℕ, zero, suc, ◌+◌, ◌-◌, ◌≤◌, ◌<◌}
-use mathlib.Core.Path.{◌≡◌, sym, ◌∙◌, ap, subst}
-use mathlib.Core.List.{List, [], ◌∷◌, ◌++◌, append_assoc, append-nil}
+use Prim.Native.Nat.{ℕ, ◌+◌, ◌-◌, ◌≤◌, ◌<◌}
 use native.Mathlib.Omega.{arith}
-use lib.ListN.{length, get_or, set, take, drop, replicate, length-append, length-replicate, take-append-drop, drop_of_length-le}
-use lib.Seq.{take-suc-set, drop-set-lt, drop-cons, take-append_seam, drop-append-add}
-use Rattle.layouts.specs.declared.widths.Widths.{Widths}
-use Rattle.layouts.specs.Layouts.{most_fields, ◌of◌, laid}
-use Rattle.layouts.specs.Rows.{Row, unrolled, widths_of}
-
--- places from `at` up to `end` still to be filled: filling the first of them leads to the same end
-pub one-filled : (xs : List ℕ) (at end w : ℕ) → at < end → end ≤ length xs
-    → take (at + 1) (set xs at w) ++ ((end - (at + 1)) of w ++ drop end (set xs at w))
-    ≡ take at xs ++ ((end - at) of w ++ drop end xs)
-one-filled xs at end w inside fits =
-    let left : end - at ≡ suc (end - (at + 1)) = omega (arith, inside) in
-    let next : at + 1 ≡ suc at = omega arith in
-    rw (left, next, take-suc-set xs at w (omega (arith, inside, fits)), drop-set-lt end xs at w inside)
-    (append_assoc (take at xs) (w ∷ []) _)
-
--- all of them filled
-pub none_left : (xs : List ℕ) (at w : ℕ) → take at xs ++ ((at - at) of w ++ drop at xs) ≡ xs
-none_left xs at w =
-    let e : at - at ≡ 0 = omega arith in
-    rw e (take-append-drop at xs)
-
-drop-replicate : (n m a : ℕ) → drop n (replicate m a) ≡ replicate (m - n) a
-drop-replicate zero m a =
-    let e : m - 0 ≡ m = omega arith in
-    rw e
-drop-replicate (suc n) zero a =
-    let e : 0 - suc n ≡ 0 = omega arith in
-    rw e
-drop-replicate (suc n) (suc m) a =
-    let e : suc m - suc n ≡ m - n = omega arith in
-    rw e (drop-replicate n m a)
+use mathlib.Core.Path.{◌≡◌, sym, ◌∙◌, ap}
+use mathlib.Core.List.{List, [], ◌++◌, append_assoc, append-nil}
+use lib.ListN.{length, get_or, take, drop, replicate, length-append, length-replicate}
+use lib.Seq.{take-append_seam, drop-append-add, drop-drop}
+use borrow.Rule.Slice.PartMut.{put_mid}
+use Rattle.std.proofs.lemmas.List.{drop-replicate, take_more}
+use Rattle.std.proofs.lemmas.List.Concat.{flat_map-append}
+use Rattle.std.proofs.lemmas.List.Folds.{length-flat_map-take}
+use Rattle.layouts.specs.Layouts.{most_fields, laid, ◌of◌}
+use Rattle.layouts.specs.Rows.{group, unrolled}
 
 -- one group more, behind what is there already
-pub laid_more : (xs : List ℕ) (n w : ℕ)
+laid_more : (xs : List ℕ) (n w : ℕ)
     → take (length xs) (laid xs) ++ (n of w ++ drop (length xs + n) (laid xs)) ≡ laid (xs ++ n of w)
 laid_more xs n w =
     let zeros : List ℕ = replicate (most_fields - length xs) 0 in
@@ -46,66 +22,38 @@ laid_more xs n w =
     length-append xs (n of w) ∙ ap (λ k. length xs + k) (length-replicate n w)
     in
     let rest : most_fields - length xs - n ≡ most_fields - (length xs + n) = omega arith in
-    rw (take-append_seam xs zeros, drop-append-add xs zeros n, drop-replicate n (most_fields - length xs) 0, more, rest)
+    rw (take-append_seam xs zeros, drop-append-add xs zeros n, drop-replicate {X = ℕ} n (most_fields - length xs) 0, more, rest)
     (sym (append_assoc xs (n of w) _))
 
--- the pair at a place, and those behind it
-pub pair-at : (row : Row) (k : ℕ) → k + 1 < length row
-    → unrolled (drop k row) ≡ get_or row k 0 of get_or row (k + 1) 0 ++ unrolled (drop (k + 2) row)
-unfolding unrolled
-pair-at row k inside =
-    let next : k + 1 ≡ suc k = omega arith in
-    let after : k + 2 ≡ suc (suc k) = omega arith in
-    rw (after, next, drop-cons row k 0 (omega (arith, inside)), drop-cons row (suc k) 0 (omega (arith, inside)))
+module _ (pairs : List (List ℕ)) (k : ℕ) where
+  -- the fields up to a pair's, and its own, are no more than all
+  pub fields_within : k < length pairs → length (unrolled (take k pairs)) + get_or (get_or pairs k []) 0 0 ≤ length (unrolled pairs)
+  fields_within inside =
+      let pair = get_or pairs k [] in
+      omega (arith, length-flat_map-take group pairs k [] inside, length-replicate (get_or pair 0 0) (get_or pair 1 0))
 
--- filled up to the end: what stood from `from` on is a group
-pub filled : (ys xs : List ℕ) (at from n w : ℕ) → at ≡ from + n
-    → take at ys ++ ((from + n - at) of w ++ drop (from + n) ys) ≡ take from xs ++ ((from + n - from) of w ++ drop (from + n) xs)
-    → ys ≡ take from xs ++ (n of w ++ drop (from + n) xs)
-filled ys xs at from n w done same =
-    let count : from + n - from ≡ n = omega arith in
-    let out : ys ≡ take from xs ++ ((from + n - from) of w ++ drop (from + n) xs) =
-    sym (none_left ys (from + n) w)
-    ∙ (ap (λ k. take k ys ++ ((from + n - k) of w ++ drop (from + n) ys)) (sym done) ∙ same)
-    in
-    subst (λ k. ys ≡ take from xs ++ (k of w ++ drop (from + n) xs)) count out
+  -- a pair is one group more
+  unrolled-more : k < length pairs → unrolled (take (k + 1) pairs) ≡ unrolled (take k pairs) ++ group (get_or pairs k [])
+  unrolled-more inside =
+      ap unrolled (take_more pairs k [] inside)
+      ∙ flat_map-append group (take k pairs) _
+      ∙ ap (λ l. unrolled (take k pairs) ++ l) (append-nil (group (get_or pairs k [])))
 
--- widths as the code has them, with one group more
-pub widths-more : (r all : Widths) (xs : List ℕ) (n w : ℕ) → all ≡ widths_of xs
-    → (r.fields ≡ all.fields + n) × (r.bits ≡ take all.fields all.bits ++ (n of w ++ drop (all.fields + n) all.bits))
-    → r ≡ widths_of (xs ++ n of w)
-widths-more r all xs n w before more =
-    let count : r.fields ≡ length (xs ++ n of w) =
-    more.0
-    ∙ (ap (λ a. a.fields + n) before
-    ∙ sym (length-append xs (n of w) ∙ ap (λ k. length xs + k) (length-replicate n w)))
-    in
-    let bits : r.bits ≡ laid (xs ++ n of w) =
-    more.1
-    ∙ (ap (λ a. take a.fields a.bits ++ (n of w ++ drop (a.fields + n) a.bits)) before ∙ laid_more xs n w)
-    in
-    λ i. record { fields = count i; bits = bits i }
+  pub count-more : k < length pairs
+      → length (unrolled (take (k + 1) pairs)) ≡ length (unrolled (take k pairs)) + get_or (get_or pairs k []) 0 0
+  count-more inside =
+      let pair = get_or pairs k [] in
+      ap length (unrolled-more inside)
+      ∙ length-append (unrolled (take k pairs)) (group pair)
+      ∙ ap (λ n. length (unrolled (take k pairs)) + n) (length-replicate (get_or pair 0 0) (get_or pair 1 0))
 
--- the pair at a place fits behind what is there already, if all of them fit
-pub pair_fits : (all : Widths) (xs : List ℕ) (row : Row) (k : ℕ) → k + 1 < length row → all ≡ widths_of xs
-    → xs ++ unrolled (drop k row) ≡ unrolled (drop 2 row) → length (unrolled (drop 2 row)) ≤ most_fields
-    → all.fields + get_or row k 0 ≤ most_fields
-pair_fits all xs row k inside before same fits =
-    let n = get_or row k 0 in
-    let w = get_or row (k + 1) 0 in
-    let rest = unrolled (drop (k + 2) row) in
-    let sum : length (unrolled (drop 2 row)) ≡ length xs + (n + length rest) =
-    ap length (sym same)
-    ∙ (ap (λ l. length (xs ++ l)) (pair-at row k inside)
-    ∙ (length-append xs (n of w ++ rest)
-    ∙ ap (λ m. length xs + m) (length-append (n of w) rest ∙ ap (λ m. m + length rest) (length-replicate n w))))
-    in
-    omega (arith, ap (λ a. a.fields) before, sum, fits)
-
--- no pair is left
-pub all-unrolled : (xs : List ℕ) (row : Row) (k : ℕ) → length row ≤ k → xs ++ unrolled (drop k row) ≡ unrolled (drop 2 row)
-    → xs ≡ unrolled (drop 2 row)
-unfolding unrolled
-all-unrolled xs row k past same =
-    let done : unrolled (drop k row) ≡ [] = rw (drop_of_length-le row past) in
-    sym (append-nil xs) ∙ (ap (λ l. xs ++ l) (sym done) ∙ same)
+  pub laid-more : k < length pairs → (widths filled : List ℕ) (at n m : ℕ) → at ≡ length (unrolled (take k pairs))
+      → widths ≡ laid (unrolled (take k pairs))
+      → n ≡ get_or (get_or pairs k []) 0 0 → m ≡ get_or (get_or pairs k []) 0 0 → filled ≡ replicate m (get_or (get_or pairs k []) 1 0)
+      → put_mid at n widths filled ≡ laid (unrolled (take (k + 1) pairs))
+  laid-more inside widths filled at n m there so-far so-many long new =
+      let before = unrolled (take k pairs) in
+      let count = get_or (get_or pairs k []) 0 0 in
+      let width = get_or (get_or pairs k []) 1 0 in
+      rw (there, so-far, new, so-many, long, drop-drop count (length before) (laid before))
+      (laid_more before count width ∙ ap laid (sym (unrolled-more inside)))

@@ -1,5 +1,5 @@
 -- The field tables (01, "The field tables", and 02, "One"; FORMAT 6), and what a program is told of a type that a satellite carries.
-use Rattle.std.specs.Prelude.{ℕ, zero, suc, ◌+◌, ◌-◌, Bool, true, false, ◌||◌, cond, List, [], ◌∷◌, ◌++◌, map, length, get_or, take, replicate, eqb}
+use Rattle.std.specs.Prelude.{ℕ, zero, suc, ◌+◌, ◌-◌, Bool, true, false, ◌||◌, cond, List, [], ◌∷◌, ◌++◌, map, length, get_or, take, replicate, eqb, Option, Some, None}
 use Rattle.satellites.specs.declared.Satellite.{Satellite}
 use Rattle.satellites.specs.Satellites.{number_of, type_byte_at}
 use Rattle.layouts.specs.declared.Layout.{Layout}
@@ -119,18 +119,21 @@ most_fields = 95
 abbrev pub laid : List ℕ → List ℕ
 laid widths = widths ++ replicate (most_fields - length widths) 0
 
--- what a program is told of a type; of one that is not carried, nothing. The frame's length follows from the satellite's
--- constants: what stands ahead of the type byte, and the size
-abbrev pub layout_of : Satellite → ℕ → Layout
-layout_of s t =
+-- what a program is told of an entry of a satellite. The frame's length follows from the satellite's constants: what stands ahead of the
+-- type byte, and the size
+abbrev pub laid_out : Satellite → Entry → Layout
+laid_out s e =
     record {
-      carried = carries s t;
-      fields = length (entry_of s t).widths;
-      size = (entry_of s t).size;
-      frame = cond (carries s t) (type_byte_at s + (entry_of s t).size) 0;
-      clock = (entry_of s t).clock;
-      widths = laid (entry_of s t).widths;
+      fields = length e.widths;
+      size = e.size;
+      frame = type_byte_at s + e.size;
+      clock = e.clock;
+      widths = laid e.widths;
     }
+
+-- what it is told of a type: of one that is not carried, nothing
+abbrev pub layout_of : Satellite → ℕ → Option Layout
+layout_of s t = cond (carries s t) (Some (laid_out s (entry_of s t))) None
 
 -- so many bits are they together
 unfoldable pub total : List ℕ → ℕ

@@ -1,9 +1,10 @@
 -- The paper's two tables typed a second time, in bare numbers: the field tables (01, "The field tables"; FORMAT 6) and the printed table
 -- (01, "The printed table"; FORMAT 11), with the line and the six lines that 02, "One", adds to them. The other definitions of this crate do
 -- not use them.
-use Rattle.std.specs.Prelude.{ℕ, Bool, true, false, List, [], ◌∷◌, ◌++◌, map, replicate}
+use Rattle.std.specs.Prelude.{ℕ, Bool, true, false, List, [], ◌∷◌, ◌++◌, replicate, Option, Some, None}
 use Rattle.satellites.specs.declared.Satellite.{Satellite}
 use Rattle.satellites.specs.Satellites.{number_of}
+use Rattle.layouts.specs.declared.Layout.{Layout}
 use Rattle.layouts.specs.Layouts.{Line, layout_of, types_of}
 
 -- a line of the field tables: type, whether the first field is the clock, widths, sent by, from type byte to checksum
@@ -79,11 +80,16 @@ printed_table =
     ∷ printed_line 6 12 18 83
     ∷ []
 
--- "satellite number, type, field count, and frame length in bytes": the lines of one satellite, as `of` answers for each of its
--- types, and the lines of several
-abbrev pub lines_of : Satellite → List PrintedLine
-lines_of s = map (λ t. printed_line (number_of s) t (layout_of s t).fields (layout_of s t).frame) (types_of s)
+-- "satellite number, type, field count, and frame length in bytes": the line of a type by what `of` answers for it, the lines of one
+-- satellite's types, and those of several satellites
+abbrev pub line_by : Satellite → ℕ → Option Layout → List PrintedLine
+line_by s t None = []
+line_by s t (Some l) = printed_line (number_of s) t l.fields l.frame ∷ []
+
+unfoldable pub lines_of : Satellite → List ℕ → List PrintedLine
+lines_of s [] = []
+lines_of s (t ∷ ts) = line_by s t (layout_of s t) ++ lines_of s ts
 
 unfoldable pub lines : List Satellite → List PrintedLine
 lines [] = []
-lines (s ∷ ss) = lines_of s ++ lines ss
+lines (s ∷ ss) = lines_of s (types_of s) ++ lines ss

@@ -13,11 +13,10 @@ use satellites::Satellite;
 pub const MOST_FIELDS: usize = 95;
 
 // What a satellite's type is made of: how many fields, their widths in bits, the bytes from type byte to checksum, the bytes
-// of the whole frame, and whether the first field is the satellite's clock, 32 bits. It is fetched once and then walked. A type
-// that is not carried has none of these.
-#[derive(Clone, Copy)]
+// of the whole frame, and whether the first field is the satellite's clock, 32 bits. It is fetched once and then walked. The widths
+// are an array, with zeros behind them, since the library allocates nothing.
+#[derive(Clone, Copy, Debug, PartialEq, Eq)]
 pub struct Layout {
-    pub carried: bool,
     pub fields: usize,
     pub size: usize,
     pub frame: usize,
@@ -25,34 +24,22 @@ pub struct Layout {
     pub widths: [u8; MOST_FIELDS],
 }
 
-// The layout of a satellite's type.
-pub fn of(satellite: Satellite, ty: u32) -> Layout
+// The layout of a type that the satellite carries.
+pub fn of(satellite: Satellite, ty: u32) -> Option<Layout>
     ensures { result ≡ layout_of satellite ty }
 {
-    let row = table::row_of(satellite, ty);
+    let row = table::row_of(satellite, ty)?;
     let size = row[1] as usize;
-    if size == 0 {
-        return Layout {
-            carried: false,
-            fields: 0,
-            size: 0,
-            frame: 0,
-            clock: false,
-            widths: [0; MOST_FIELDS],
-        };
-    }
-    let all = widths::unroll(row);
-    let bits = all.bits;
+    let (fields, widths) = widths::unroll(table::pairs(row));
     let frame = satellite.type_byte_at() + size;
     let clock = table::starts_with_clock(row);
-    Layout {
-        carried: true,
-        fields: all.fields,
+    Some(Layout {
+        fields,
         size,
         frame,
         clock,
-        widths: bits,
-    }
+        widths,
+    })
 }
 
 impl Layout {
@@ -60,27 +47,18 @@ impl Layout {
     pub fn width(self, field: usize) -> usize
         ensures { result ≡ width_at self.widths field }
     {
-        if field < MOST_FIELDS {
-            self.widths[field] as usize
-        } else {
-            0
-        }
+        self.widths.get(field).copied().unwrap_or(0) as usize
     }
 
     // The bit of the body at which a field starts; the body's end where there is no field of that number.
     pub fn start(self, field: usize) -> usize
         ensures { result ≡ start_at self.widths field }
     {
-        let mut bit: usize = 0;
-        let mut k: usize = 0;
-        while k < field {
-            if k == MOST_FIELDS {
-                return bit;
-            }
-            bit += self.widths[k] as usize;
-            k += 1;
-        }
-        bit
+        self.widths
+            .iter()
+            .take(field)
+            .map(|width| *width as usize)
+            .sum()
     }
 
     // The first field that is not the clock: 1 where the fields start with one, else 0.

@@ -3,19 +3,15 @@
 // A row is its type, the bytes from type byte to checksum, and then its fields in pairs, so many of so many bits
 // ("48 of 16"), with zeros behind them. A first pair of 1 of 32 is the satellite's clock ("clock 32"): a row that starts with another
 // field of 32 bits has an empty pair ahead.
-ghost use Rattle.std.specs.Prelude.{◌≡◌, map, ◌<◌, eqb, get_or};
-ghost use Rattle.layouts.specs.Layouts.{entry_of, found};
-ghost use Rattle.layouts.specs.Rows.{says, kept, rows_at};
+ghost use Rattle.std.specs.Prelude.{◌≡◌, map, cond, Some, None};
+ghost use Rattle.std.specs.Option.{option_map};
+ghost use Rattle.layouts.specs.Layouts.{carries, entries_of, entry_of};
+ghost use Rattle.layouts.specs.Rows.{says, pairs_of};
 
 use satellites::Satellite;
 
-// Type, size and up to seven pairs.
-pub(crate) const NUMBERS: usize = 16;
-
-pub(crate) type Row = [u8; NUMBERS];
-
-// As many as a satellite may have.
-const ROWS: usize = 6;
+// Type, size and up to seven pairs. Numbers and no struct: 01 wants arrays of arrays, and so a type is one line.
+pub(crate) type Row = [u8; 16];
 
 // clock 32, 4 of 8, 16, 3 of 12, 16, 5 of 12, 4 of 8
 const TYPE_1: Row = [1, 31, 1, 32, 4, 8, 1, 16, 3, 12, 1, 16, 5, 12, 4, 8];
@@ -53,66 +49,40 @@ const TYPE_11: Row = [11, 9, 1, 32, 2, 8, 0, 0, 0, 0, 0, 0, 0, 0, 0, 0];
 // UTC 32, 16, 12 of 32, latitude, longitude, height 16 each, 8. UTC is no clock
 const TYPE_12: Row = [12, 64, 0, 0, 1, 32, 1, 16, 12, 32, 3, 16, 1, 8, 0, 0];
 
-const NO_ROW: Row = [0; NUMBERS];
-
-const TABLE: [[Row; ROWS]; 7] = [
-    [TYPE_2_D, TYPE_5_D, TYPE_8_D, NO_ROW, NO_ROW, NO_ROW],
-    [TYPE_1, TYPE_2, TYPE_5, TYPE_6, TYPE_7, TYPE_12],
-    [TYPE_1, TYPE_2, TYPE_5, TYPE_6, TYPE_11, TYPE_12],
-    [TYPE_1, TYPE_2, TYPE_5, TYPE_6, TYPE_10, TYPE_12],
-    [TYPE_1, TYPE_2, TYPE_5, TYPE_6, TYPE_12, NO_ROW],
-    [TYPE_1, TYPE_2, TYPE_5, TYPE_6, TYPE_10, TYPE_12],
-    [TYPE_1, TYPE_2, TYPE_5, TYPE_8_SA, TYPE_12, NO_ROW],
-];
-
-// The row of a type that a satellite carries; an empty one where it does not carry the type.
-pub(crate) fn row_of(satellite: Satellite, ty: u32) -> Row
-    ensures { says result ≡ entry_of satellite ty }
+// The row of a type that a satellite carries.
+pub(crate) fn row_of(satellite: Satellite, ty: u32) -> Option<&'static Row>
+    ensures { option_map (λ r. says r.now) result ≡ cond (carries satellite ty) (Some (entry_of satellite ty)) None }
 {
-    find(rows_of(satellite), ty)
+    rows_of(satellite).iter().find(|row| row[0] as u32 == ty)
 }
 
-// Whether its first field is the clock.
-pub(crate) fn starts_with_clock(row: Row) -> bool
-    ensures { result ≡ (says row).clock }
+// The rows of the types that a satellite carries.
+#[tactic(auto, unfolding(crate::specs::Layouts::table, crate::specs::Layouts::counted, crate::specs::Layouts::among, crate::specs::Layouts::carried_by, crate::specs::Rows::pairs_of))]
+fn rows_of(satellite: Satellite) -> &'static [Row]
+    ensures { map says result.now ≡ entries_of satellite }
 {
-    if row[2] != 1 {
-        return false;
+    match satellite {
+        Satellite::HadesD => &[TYPE_2_D, TYPE_5_D, TYPE_8_D],
+        Satellite::HadesIcm => &[TYPE_1, TYPE_2, TYPE_5, TYPE_6, TYPE_7, TYPE_12],
+        Satellite::MariaG => &[TYPE_1, TYPE_2, TYPE_5, TYPE_6, TYPE_11, TYPE_12],
+        Satellite::Unne1 => &[TYPE_1, TYPE_2, TYPE_5, TYPE_6, TYPE_10, TYPE_12],
+        Satellite::HadesR => &[TYPE_1, TYPE_2, TYPE_5, TYPE_6, TYPE_12],
+        Satellite::Unne1b => &[TYPE_1, TYPE_2, TYPE_5, TYPE_6, TYPE_10, TYPE_12],
+        Satellite::HadesSa => &[TYPE_1, TYPE_2, TYPE_5, TYPE_8_SA, TYPE_12],
     }
-    row[3] == 32
 }
 
-fn find(rows: [Row; ROWS], ty: u32) -> Row
-    ensures { says result ≡ found ty (map says rows) }
+// A row's pairs, so many fields of so many bits.
+pub(crate) fn pairs(row: &Row) -> &[[u8; 2]]
+    ensures { result.now ≡ pairs_of row.now }
 {
-    let mut k: usize = 0;
-    while k < ROWS {
-        let row = rows[k];
-        if is_of(row, ty) {
-            return row;
-        }
-        k += 1;
-    }
-    NO_ROW
+    let (pairs, _) = row[2..].as_chunks();
+    pairs
 }
 
-fn is_of(row: Row, ty: u32) -> bool
-    ensures { result ≡ eqb (get_or row 0 0) ty }
+// Whether a row's first field is the clock.
+pub(crate) fn starts_with_clock(row: &Row) -> bool
+    ensures { result ≡ (says row.now).clock }
 {
-    row[0] as u32 == ty
-}
-
-// The rows of a satellite, fetched once: the table is made anew at each use.
-fn rows_of(satellite: Satellite) -> [Row; ROWS]
-    ensures { map says result ≡ kept satellite }
-{
-    let number = satellite.number() as usize;
-    at(TABLE, number)
-}
-
-fn at(table: [[Row; ROWS]; 7], number: usize) -> [Row; ROWS]
-    requires { number < 7 }
-    ensures { result ≡ rows_at table number }
-{
-    table[number]
+    row[2..4] == [1, 32]
 }

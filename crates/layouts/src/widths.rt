@@ -1,49 +1,23 @@
 // The widths of a row's fields, one after another.
-ghost use Rattle.std.specs.Prelude.{◌≡◌, ◌++◌, ◌+◌, ◌≤◌, length, take, drop};
-ghost use Rattle.layouts.specs.Layouts.{◌of◌, most_fields};
-ghost use Rattle.layouts.specs.Rows.{says, widths_of};
+ghost use Rattle.std.specs.Prelude.{◌≡◌, ◌≤◌, length};
+ghost use Rattle.layouts.specs.Layouts.{most_fields, laid};
+ghost use Rattle.layouts.specs.Rows.{unrolled};
 
 use crate::MOST_FIELDS;
-use crate::table::{NUMBERS, Row};
 
-// How many fields there are, and their widths, with zeros behind them.
-#[derive(Clone, Copy)]
-pub(crate) struct Widths {
-    pub(crate) fields: usize,
-    pub(crate) bits: [u8; MOST_FIELDS],
-}
-
-// The widths of a row's fields: behind type and size, pair by pair, so many of so many bits.
-pub(crate) fn unroll(row: Row) -> Widths
-    requires { length (says row).widths ≤ most_fields }
-    ensures { result ≡ widths_of (says row).widths }
+// How many fields a row's pairs stand for, so many of so many bits, and the widths of these fields, with zeros behind them.
+#[tactic(auto, using(crate::proofs::Unrolled::fields_within))]
+pub(crate) fn unroll(pairs: &[[u8; 2]]) -> (usize, [u8; MOST_FIELDS])
+    requires { length (unrolled pairs.now) ≤ most_fields }
+    ensures fields { result.0 ≡ length (unrolled pairs.now) }
+    ensures widths { result.1 ≡ laid (unrolled pairs.now) }
 {
-    let mut all = Widths {
-        fields: 0,
-        bits: [0; MOST_FIELDS],
-    };
-    let mut k: usize = 2;
-    while k < NUMBERS {
-        all = all.and(row[k], row[k + 1]);
-        k += 2;
+    let mut fields = 0;
+    let mut widths = [0; MOST_FIELDS];
+    for &[count, width] in pairs {
+        let end = fields + count as usize;
+        widths[fields..end].fill(width);
+        fields = end;
     }
-    all
-}
-
-impl Widths {
-    fn and(self, count: u8, width: u8) -> Widths
-        requires { self.fields + count ≤ most_fields }
-        ensures { (result.fields ≡ self.fields + count)
-            × (result.bits ≡ take self.fields self.bits ++ (count of width ++ drop (self.fields + count) self.bits)) }
-    {
-        let mut more = self;
-        let mut at = self.fields;
-        let end = at + count as usize;
-        while at < end {
-            more.bits[at] = width;
-            at += 1;
-        }
-        more.fields = end;
-        more
-    }
+    (fields, widths)
 }

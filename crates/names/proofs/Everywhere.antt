@@ -1,17 +1,15 @@
 -- From one test that is computed over all satellites, or over all lines of the table, to each. Assumes nothing.
 use Prim.Native.Nat.{ℕ}
-use mathlib.Core.Path.{◌≡◌, refl, ◌∙◌, ap, subst}
+use mathlib.Core.Path.{◌≡◌, refl, subst}
 use mathlib.Core.Bool.{Bool, true, false, not, cond, ◌&&◌}
 use mathlib.Core.List.{List, [], ◌∷◌, map}
 use lib.Dec.{T, eqb}
-use lib.ListN.{get_or, get_or-map}
+use lib.ListN.{get_or}
 use mir.Facts.{and_yes}
 use Rattle.satellites.specs.declared.Satellite.{Satellite}
-use Rattle.satellites.specs.declared.Satellite.TheVariants.{HadesD}
-use Rattle.satellites.specs.declared.Known.{Known}
-use Rattle.satellites.specs.declared.Known.TheVariants.{Is, Unknown}
+use Rattle.satellites.specs.declared.Satellite.TheVariants.{HadesD, HadesIcm, MariaG, Unne1, HadesR, Unne1b, HadesSa}
 use Rattle.satellites.specs.Satellites.{number_of, seven}
-use Rattle.satellites.proofs.Laws.{known-number, number-below}
+use Rattle.satellites.proofs.Laws.{number-below}
 use Rattle.layouts.specs.Layouts.{among}
 use Rattle.layouts.specs.Rules.{every}
 use Rattle.layouts.proofs.Entries.{each}
@@ -33,11 +31,13 @@ true-is false t = absurd t
 
 -- the satellites are in the order of their numbers, and so is what is said of each
 pub by_number : {A : Type 0} (f : Satellite → A) (d : A) (s : Satellite) → get_or (map f seven) (number_of s) d ≡ f s
-by_number {A} f d s = get_or-map of (map Is seven) (number_of s) Unknown ∙ ap of (known-number s)
-  where
-    of : Known → A
-    of (Is s) = f s
-    of Unknown = d
+by_number f d HadesD = refl
+by_number f d HadesIcm = refl
+by_number f d MariaG = refl
+by_number f d Unne1 = refl
+by_number f d HadesR = refl
+by_number f d Unne1b = refl
+by_number f d HadesSa = refl
 
 -- what passes for all seven passes for each
 pub each-satellite : (test : Satellite → Bool) → T (every test seven) → (s : Satellite) → T (test s)

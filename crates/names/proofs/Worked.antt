@@ -1,22 +1,16 @@
 -- Names as the documents print them, computed. Assumes nothing.
 use mathlib.Core.Path.{◌≡◌, refl}
 use mathlib.Core.List.{[], ◌∷◌}
-use Rattle.pages.specs.Pages.{put}
-use Rattle.words.specs.Words.{text, parts}
-use Rattle.names.specs.Names.{words, written, index, array_of, grid_of, prefixed}
+use Rattle.words.specs.Words.{text}
+use Rattle.names.specs.Names.{words, index, array_of, grid_of, prefixed}
 use Rattle.satellites.specs.declared.Satellite.TheVariants.{HadesD, HadesIcm, MariaG, Unne1, HadesR, Unne1b, HadesSa}
 use Rattle.layouts.specs.Layouts.{counted, among}
-use Rattle.names.specs.Fields.{table, names_in, name_of, lined}
+use Rattle.names.specs.Fields.{table, names_in, name_of, row_of}
 
 -- a string is its characters' codes
 pub text-is : text "td" ≡ 116 ∷ 100 ∷ []
 unfolding text
 text-is = refl
-
--- letters, and zeros behind them
-pub written_is : written (text "td") ≡ record { letters = 2; text = 116 ∷ 100 ∷ 0 ∷ 0 ∷ 0 ∷ 0 ∷ 0 ∷ 0 ∷ 0 ∷ 0 ∷ 0 ∷ 0 ∷ 0 ∷ 0 ∷ 0 ∷ 0 ∷ [] }
-unfolding text put written
-written_is = refl
 
 -- the index goes up from 0
 pub array-is : array_of (text "td") 3 ≡ text "td[0]" ∷ text "td[1]" ∷ text "td[2]" ∷ []
@@ -35,55 +29,55 @@ index_is = refl
 
 -- each word has its prefix
 pub words_are : prefixed "min" (words "tpa ttx2") ≡ text "mintpa" ∷ text "minttx2" ∷ []
-unfolding text parts
+unfolding text
 words_are = refl
 
 -- there is an empty part between two separators, and behind one that ends the text
 pub parts_are : words "utc  adr " ≡ text "utc" ∷ [] ∷ text "adr" ∷ [] ∷ []
-unfolding text parts
+unfolding text
 parts_are = refl
 
--- in a row there is a blank behind each name
-pub lined-is : lined (text "utc" ∷ text "adr" ∷ []) ≡ text "utc adr "
-unfolding text lined
-lined-is = refl
+-- in a row there is a blank between two names, and none behind the last
+pub row-is : row_of (text "utc" ∷ text "adr" ∷ []) ≡ text "utc adr"
+unfolding text
+row-is = refl
 
 -- "type 5 field 16 is maxtpeps on 1 to 4 and maxteps on 5 and 6 (field 15 of 0 is maxteps)"
-pub maximum-of-document-1 : name_of HadesD 5 15 ≡ written (text "maxteps")
-unfolding counted among table names_in parts text
+pub maximum-of-document-1 : name_of HadesD 5 15 ≡ text "maxteps"
+unfolding counted among table names_in text
 maximum-of-document-1 = refl
 
-pub maximum-of-document-2 : name_of HadesIcm 5 16 ≡ written (text "maxtpeps")
-unfolding counted among table names_in parts text
+pub maximum-of-document-2 : name_of HadesIcm 5 16 ≡ text "maxtpeps"
+unfolding counted among table names_in text
 maximum-of-document-2 = refl
 
-pub maximum-of-document-4 : name_of Unne1b 5 16 ≡ written (text "maxteps")
-unfolding counted among table names_in parts text
+pub maximum-of-document-4 : name_of Unne1b 5 16 ≡ text "maxteps"
+unfolding counted among table names_in text
 maximum-of-document-4 = refl
 
 -- "type 12 field 6 is tle.xnnd6o on 1 to 4 and tle.xndd6o on 5 and 6"
-pub element-of-document-2 : name_of HadesR 12 6 ≡ written (text "tle.xnnd6o")
-unfolding counted among table names_in parts text
+pub element-of-document-2 : name_of HadesR 12 6 ≡ text "tle.xnnd6o"
+unfolding counted among table names_in text
 element-of-document-2 = refl
 
-pub element-of-document-0 : name_of HadesSa 12 6 ≡ written (text "tle.xndd6o")
-unfolding counted among table names_in parts text
+pub element-of-document-0 : name_of HadesSa 12 6 ≡ text "tle.xndd6o"
+unfolding counted among table names_in text
 element-of-document-0 = refl
 
 -- the last light value of type 6, and the last character of type 7
-pub last-light-is : name_of Unne1 6 53 ≡ written (text "v[7][5]")
-unfolding counted among table names_in parts text index array_of grid_of
+pub last-light-is : name_of Unne1 6 53 ≡ text "v[7][5]"
+unfolding counted among table names_in text index array_of grid_of
 last-light-is = refl
 
-pub last-character-is : name_of HadesIcm 7 94 ≡ written (text "data[92]")
-unfolding counted among table names_in parts text index array_of
+pub last-character-is : name_of HadesIcm 7 94 ≡ text "data[92]"
+unfolding counted among table names_in text index array_of
 last-character-is = refl
 
 -- behind the last field, and on a type that is not carried, the name is empty
-pub no-field-is : name_of MariaG 11 3 ≡ written []
-unfolding counted among table names_in parts text
+pub no-field-is : name_of MariaG 11 3 ≡ []
+unfolding counted among table names_in text
 no-field-is = refl
 
-pub not-carried-is : name_of HadesD 6 0 ≡ written []
-unfolding counted among table names_in parts text
+pub not-carried-is : name_of HadesD 6 0 ≡ []
+unfolding counted among table names_in text
 not-carried-is = refl

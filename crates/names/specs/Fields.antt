@@ -1,13 +1,12 @@
 -- The names of the satellites, and of the fields (01, "The field tables": "Field names come from the documents"; FORMAT 6).
-use Rattle.std.specs.Prelude.{ℕ, cond, ◌&&◌, List, [], ◌∷◌, ◌++◌, get_or, replicate, eqb}
+use Rattle.std.specs.Prelude.{ℕ, cond, ◌&&◌, List, [], ◌∷◌, ◌++◌, get_or, eqb}
+use Rattle.std.specs.List.{join_with_byte}
 use Rattle.satellites.specs.declared.Satellite.{Satellite}
 use Rattle.satellites.specs.declared.Satellite.TheVariants.{HadesD, HadesIcm, MariaG, Unne1, HadesR, Unne1b, HadesSa}
 use Rattle.satellites.specs.Satellites.{number_of}
 use Rattle.layouts.specs.Layouts.{◌to◌, only, among}
 use Rattle.words.specs.Words.{text}
-use Rattle.names.specs.declared.Name.{Name}
-use Rattle.pages.specs.Pages.{put}
-use Rattle.names.specs.Names.{words, written, array_of, grid_of, prefixed}
+use Rattle.names.specs.Names.{words, array_of, grid_of, prefixed}
 
 -- the satellites' own names (01, "Scope and rules"; FORMAT 2)
 abbrev pub satellite_name : Satellite → List ℕ
@@ -66,18 +65,13 @@ abbrev pub names_of : Satellite → ℕ → List (List ℕ)
 names_of s ty = names_in (number_of s) ty table
 
 -- the name of a field; the empty name where there is no such field
-abbrev pub name_of : Satellite → ℕ → ℕ → Name
-name_of s ty field = written (get_or (names_of s ty) field [])
-
--- names one after the other, a blank behind each
-unfoldable pub lined : List (List ℕ) → List ℕ
-lined [] = []
-lined (name ∷ names) = name ++ 32 ∷ lined names
+abbrev pub name_of : Satellite → ℕ → ℕ → List ℕ
+name_of s ty field = get_or (names_of s ty) field []
 
 -- no row is longer (`row-not-cut`)
 abbrev pub row_length : ℕ
 row_length = 1024
 
--- names as a row: so many letters, blanks where there is no name
-unfoldable pub row_of : List (List ℕ) → List ℕ
-row_of names = put (replicate row_length 32) 0 (lined names)
+-- names as a row: one after the other, a blank between two
+abbrev pub row_of : List (List ℕ) → List ℕ
+row_of names = join_with_byte 32 names

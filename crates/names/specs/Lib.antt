@@ -1,4 +1,3 @@
 pub mod Documents
 pub mod Fields
-pub mod Lines
 pub mod Names

@@ -1,13 +1,12 @@
 -- Names as texts (01, "The field tables"; FORMAT 6).
-use Rattle.std.specs.Prelude.{ℕ, zero, suc, ◌+◌, ◌/◌, ◌%◌, min, cond, not, List, [], ◌∷◌, ◌++◌, map, length, replicate, eqb, ltb}
+use Rattle.std.specs.Prelude.{ℕ, zero, suc, ◌+◌, ◌/◌, ◌%◌, cond, List, [], ◌∷◌, ◌++◌, map, eqb, ltb}
+use Rattle.std.specs.List.{slice_split}
 use Prim.Native.String.{String}
-use Rattle.pages.specs.Pages.{put}
-use Rattle.words.specs.Words.{text, parts}
-use Rattle.names.specs.declared.Name.{Name}
+use Rattle.words.specs.Words.{text}
 
 -- the parts of a text between single separators
 abbrev pub parts_of : ℕ → List ℕ → List (List ℕ)
-parts_of separator xs = parts (λ (x : ℕ). not (eqb x separator)) xs
+parts_of separator xs = slice_split (λ (x : ℕ). eqb x separator) xs
 
 -- the parts of a string between single blanks, of which the code is 32
 abbrev pub words : String → List (List ℕ)
@@ -16,10 +15,6 @@ words s = parts_of 32 (text s)
 -- no name is longer (`name-not-cut`)
 abbrev pub most_letters : ℕ
 most_letters = 16
-
--- a text as a Name: its letters, as many as there is place for, and zeros behind them
-unfoldable pub written : List ℕ → Name
-written xs = record { letters = min most_letters (length xs); text = put (replicate most_letters 0) 0 xs }
 
 -- a number below 100 in decimal, in square brackets; the code of "0" is 48
 unfoldable pub index : ℕ → List ℕ

@@ -1,13 +1,14 @@
--- A text on a page: letter by letter; the three parts that a page has then; and a text on a page that has one letter everywhere.
+-- A text on a page: where nothing is put; the three parts that a page has then; and a text on a page that has one letter everywhere.
 -- Assumes nothing.
-use Prim.Native.Nat.{ℕ, zero, suc, ◌+◌, ◌-◌, ◌≤◌, ◌<◌, min}
+use Prim.Native.Nat.{ℕ, zero, suc, ◌+◌, ◌-◌, ◌≤◌, min}
 use native.Mathlib.Nat.{le_of_suc-le-suc, not-suc-le-zero, sub-zero, suc-sub-suc}
-use native.Mathlib.Numerals.{add-one}
 use native.Mathlib.Omega.{arith}
-use mathlib.Core.Path.{◌≡◌, refl, sym, ap}
+use mathlib.Core.Path.{◌≡◌, refl, ap}
 use mathlib.Core.List.{List, [], ◌∷◌, ◌++◌}
-use lib.ListN.{length, get_or, set, take, drop, replicate, drop_of_length-le}
-use lib.Seq.{take-nil, drop-nil, drop-cons}
+use lib.ListN.{length, take, drop, replicate}
+use lib.Seq.{take-nil, drop-nil, drop-drop}
+use Rattle.std.proofs.lemmas.List.{take_min}
+use borrow.Rule.Slice.PartMut.{put_mid}
 use Rattle.pages.specs.Pages.{put, behind}
 
 pub put-length : (page : List ℕ) (at : ℕ) (text : List ℕ) → length (put page at text) ≡ length page
@@ -17,7 +18,7 @@ put-length (y ∷ page) (suc at) text = ap suc (put-length page at text)
 put-length (y ∷ page) zero [] = refl
 put-length (y ∷ page) zero (x ∷ text) = ap suc (put-length page zero text)
 
--- ---- letter by letter
+-- ---- where nothing is put
 
 -- no letter is left
 put-none : (page : List ℕ) (at : ℕ) → put page at [] ≡ page
@@ -32,23 +33,6 @@ unfolding put
 put_full [] at text h = refl
 put_full (y ∷ page) zero text h = absurd (not-suc-le-zero h)
 put_full (y ∷ page) (suc at) text h = ap (λ (r : List ℕ). y ∷ r) (put_full page at text (le_of_suc-le-suc h))
-
--- a letter, and those behind it
-put_next : (page : List ℕ) (at x : ℕ) (text : List ℕ) → at < length page → put page at (x ∷ text) ≡ put (set page at x) (suc at) text
-unfolding put
-put_next [] at x text h = absurd (not-suc-le-zero h)
-put_next (y ∷ page) zero x text h = refl
-put_next (y ∷ page) (suc at) x text h = ap (λ (r : List ℕ). y ∷ r) (put_next page at x text (le_of_suc-le-suc h))
-
--- along a text: its letter number i, and those behind it
-pub text-next : (page text : List ℕ) (to i : ℕ) → to < length page → i < length text
-    → put (set page to (get_or text i 0)) (to + 1) (drop (i + 1) text) ≡ put page to (drop i text)
-text-next page text to i place letter =
-    rw (drop-cons text i 0 letter, add-one to, add-one i) (sym (put_next page to (get_or text i 0) (drop (suc i) text) place))
-
--- and its end
-pub text-over : (page text : List ℕ) (to i : ℕ) → length text ≤ i → put page to (drop i text) ≡ page
-text-over page text to i over = rw (drop_of_length-le text over) (put-none page to)
 
 -- ---- the whole page
 
@@ -70,6 +54,12 @@ put-parts (y ∷ page) zero (x ∷ text) =
     let next : behind (y ∷ page) zero (x ∷ text) ≡ suc (behind page zero text) = omega arith in
     let room : suc (length page) - 0 ≡ suc (length page - 0) = omega arith in
     rw (next, room) (ap (λ (r : List ℕ). x ∷ r) (put-parts page zero text))
+
+-- the letters for which there is place, put at once
+pub put-fit : (page text : List ℕ) (at fit : ℕ) → fit ≡ min (length page - at) (length text)
+    → put_mid at fit page (take fit text) ≡ put page at text
+put-fit page text at fit e =
+    rw (put-parts page at text, ← take_min (length page - at) text, ← e, drop-drop fit at page)
 
 -- ---- a page that has b everywhere
 

@@ -2,14 +2,16 @@
 use Prim.Native.Nat.{ℕ, zero, suc, ◌+◌, ◌≤◌, ◌<◌}
 use native.Mathlib.Nat.{le_of_suc-le-suc, not-suc-le-zero}
 use native.Mathlib.Omega.{arith}
-use native.Mathlib.Numerals.{add-one}
 use mathlib.Core.Path.{◌≡◌, refl}
-use mathlib.Core.Bool.{Bool, true, false}
+use mathlib.Core.Bool.{Bool, true, false, cond}
 use mathlib.Core.List.{List, [], ◌∷◌}
-use lib.Dec.{eqb}
-use lib.ListN.{length, get_or, drop, drop_of_length-le}
-use lib.Seq.{drop-cons}
-use borrow.Author.Tests.{eq-eqb, ne_eqb, eqb-true, eqb-false}
+use lib.Dec.{eqb, ltb}
+use lib.ListN.{length, get_or}
+use borrow.Author.Tests.{eqb-true, eqb-false, ltb-false}
+use Rattle.std.proofs.Common.{Option, Some, None}
+use Rattle.std.specs.List.{position_or_len}
+use Rattle.std.specs.Option.{unwrap_or}
+use Rattle.std.proofs.lemmas.List.Recursion.{is_position_or_len}
 use Rattle.pages.specs.Places.{index_of, index_after}
 
 -- it is no place outside the text
@@ -22,21 +24,24 @@ index-within x (y ∷ xs) = go (eqb y x) (index-within x xs)
     go true h = omega arith
     go false h = omega arith
 
-module _ (xs : List ℕ) (x i : ℕ) where
-  -- at the letter
-  pub index-here : i < length xs → get_or xs i 0 ≡ x → index_of x (drop i xs) ≡ 0
-  unfolding index_of index_after
-  index-here h e = rw (drop-cons xs i 0 h, eq-eqb (get_or xs i 0) x e)
+-- it is where the library finds the letter
+index_is : (x : ℕ) (xs : List ℕ) → index_of x xs ≡ position_or_len (λ y. eqb y x) xs
+unfolding index_of index_after
+index_is x xs = is_position_or_len (index_of x) (λ y. eqb y x) refl (λ y ys. go (eqb y x) (index_of x ys)) xs
+  where
+    go : (b : Bool) (n : ℕ) → index_after b n ≡ cond b 0 (1 + n)
+    go true n = refl
+    go false n = omega arith
 
-  -- ahead of it
-  pub index-past : i < length xs → (get_or xs i 0 ≡ x → ⊥) → index_of x (drop i xs) ≡ suc (index_of x (drop (i + 1) xs))
-  unfolding index_of index_after
-  index-past h n = rw (drop-cons xs i 0 h, ne_eqb (get_or xs i 0) x n, add-one i)
-
-  -- behind the last letter
-  pub index-over : length xs ≤ i → index_of x (drop i xs) ≡ 0
-  unfolding index_of
-  index-over h = rw (drop_of_length-le xs h)
+-- the answer made of what it found
+pub answer_is : (x : ℕ) (xs : List ℕ) (r : Option ℕ)
+    → r ≡ cond (ltb (position_or_len (λ y. eqb y x) xs) (length xs)) (Some (position_or_len (λ y. eqb y x) xs)) None
+    → unwrap_or r (length xs) ≡ index_of x xs
+answer_is x xs r e = rw (e, ← index_is x xs) (go (ltb (index_of x xs) (length xs)) refl)
+  where
+    go : (b : Bool) → ltb (index_of x xs) (length xs) ≡ b → unwrap_or (cond b (Some (index_of x xs)) None) (length xs) ≡ index_of x xs
+    go true t = refl
+    go false t = omega (arith, ltb-false (index_of x xs) (length xs) t, index-within x xs)
 
 -- ---- what it is the place of
 

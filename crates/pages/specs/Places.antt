@@ -1,9 +1,5 @@
 -- Places in a text.
-use Rattle.std.specs.Prelude.{ℕ, suc, Bool, true, false, List, [], ◌∷◌, take, drop, eqb}
-
--- a text from one place up to another
-unfoldable pub slice : ℕ → ℕ → List ℕ → List ℕ
-slice from end text = drop from (take end text)
+use Rattle.std.specs.Prelude.{ℕ, suc, Bool, true, false, List, [], ◌∷◌, eqb}
 
 -- 0 where the letter here is the one, and else one more than behind it
 unfoldable pub index_after : Bool → ℕ → ℕ

@@ -12,17 +12,12 @@ pub fn text(page: &mut [u8], at: usize, text: &[u8]) -> usize
     ensures page_after { page.new ≡ put page.old at text.now }
     ensures text_unchanged { text.exit.now ≡ text.entry.now }
 {
-    let mut to = at;
-    let mut i = 0;
-    while i < text.len() {
-        if page.len() <= to {
-            return to;
-        }
-        page[to] = text[i];
-        to += 1;
-        i += 1;
+    if page.len() < at {
+        return at;
     }
-    to
+    let fit = (page.len() - at).min(text.len());
+    page[at..at + fit].copy_from_slice(&text[..fit]);
+    at + fit
 }
 
 // The place of the first such letter; where there is none, the text's end.
@@ -31,10 +26,7 @@ pub fn find(text: &[u8], letter: u8) -> usize
     ensures within { result ≤ length text.now }
     ensures text_unchanged { text.exit.now ≡ text.entry.now }
 {
-    for i in 0..text.len() {
-        if text[i] == letter {
-            return i;
-        }
-    }
-    text.len()
+    text.iter()
+        .position(|one| *one == letter)
+        .unwrap_or(text.len())
 }

@@ -9,105 +9,99 @@ pub mod sent_parts;
 pub mod table;
 pub mod tests;
 
-use names::Name;
-use satellites::{Known, Satellite};
+use satellites::Satellite;
+use std::fmt;
 
 // Standard output.
 const STDOUT_FILENO: i32 = 1;
 
+// Standard output, for `say!`.
+#[derive(Clone, Copy)]
+pub struct Stdout;
+
+impl fmt::Write for Stdout {
+    fn write_str(&mut self, text: &str) -> fmt::Result {
+        if io::write_all(STDOUT_FILENO, text.as_bytes()) {
+            Ok(())
+        } else {
+            Err(fmt::Error)
+        }
+    }
+}
+
+// Prints as `print!` does, which wants a runtime and a caller that answers its error: the public functions here have neither.
+#[macro_export]
+macro_rules! say {
+    ($($text:tt)*) => {{
+        let _ = std::fmt::Write::write_fmt(&mut $crate::Stdout, format_args!($($text)*));
+    }};
+}
+
+// A text as it stands, with braces and quotes.
 pub fn text(text: &[u8]) {
     io::write_all(STDOUT_FILENO, text);
 }
 
+// Nothing here calls it any more, nor `half`, but a public function stays.
 pub fn number(n: u64) {
-    io::print_decimal(STDOUT_FILENO, n);
+    say!("{n}");
 }
 
 // In hexadecimal, two digits a byte, with `gap` between each two bytes.
 pub fn bytes(bytes: &[u8], gap: &[u8]) {
-    for i in 0..bytes.len() {
-        if 0 < i {
+    for (place, &found) in bytes.iter().enumerate() {
+        if 0 < place {
             text(gap);
         }
-        byte(bytes[i]);
+        byte(found);
     }
 }
 
 pub fn byte(byte: u8) {
-    let digits = [digit(byte / 16), digit(byte % 16)];
-    text(&digits);
+    say!("{byte:02X}");
 }
 
 // A checksum, as it is sent.
 pub(crate) fn checksum(sum: u32) {
-    byte((sum / 256 % 256) as u8);
-    byte((sum % 256) as u8);
+    say!("{:04X}", sum % 0x1_0000);
 }
 
 // The low four bits, as one digit.
 pub fn half(byte: u8) {
-    let digits = [digit(byte % 16)];
-    text(&digits);
+    say!("{:X}", byte % 16);
 }
 
 // What a number stands for as a character, with a blank ahead; nothing where it is none that is seen.
 pub fn character(code: u32) {
-    match code {
-        33..=126 => characters(code),
-        _ => {}
-    }
-}
-
-fn characters(code: u32) {
-    let shown = [b' ', (code % 128) as u8];
-    text(&shown);
-}
-
-fn digit(d: u8) -> u8 {
-    if d < 10 {
-        b'0' + d
-    } else {
-        b'A' + (d - 10) % 6
+    if let Ok(letter @ b'!'..=b'~') = u8::try_from(code) {
+        text(&[b' ', letter]);
     }
 }
 
 // A word that someone gave. What is no letter of the printed set, and what would end a quoted text, is shown as `?`; a long word is cut.
 pub fn word(word: &[u8]) {
-    if word.len() <= MOST_SHOWN {
-        return letters(word);
+    for &c in word.iter().take(MOST_SHOWN) {
+        text(&[letter(c)]);
     }
-    letters(&word[0..MOST_SHOWN]);
-    text(b"..");
+    if MOST_SHOWN < word.len() {
+        text(b"..");
+    }
 }
 
 // More letters of a word are not shown.
 const MOST_SHOWN: usize = 40;
 
-fn letters(word: &[u8]) {
-    for i in 0..word.len() {
-        let shown = [letter(word[i])];
-        text(&shown);
-    }
-}
-
 fn letter(c: u8) -> u8 {
     match c {
-        b'"' => b'?',
-        b'\\' => b'?',
+        b'"' | b'\\' => b'?',
         b' '..=b'~' => c,
         _ => b'?',
     }
 }
 
-pub fn name(name: Name) {
-    let text = name.text;
-    front(&text, name.letters);
-}
-
-fn front(name: &[u8], letters: usize) {
-    if letters <= name.len() {
-        text(&name[0..letters]);
-    }
+// Of a satellite or a field. Since a name is a slice `text` would do, but a public function stays.
+pub fn name(name: &[u8]) {
+    text(name);
 }
 
 pub fn satellite(satellite: Satellite) {
@@ -135,24 +129,19 @@ pub(crate) const TYPES: u32 = 16;
 
 // The types that a satellite carries, a blank ahead of each.
 pub(crate) fn types_carried(satellite: Satellite) {
-    for ty in 0..TYPES {
-        if layouts::of(satellite, ty).carried {
-            text(b" ");
-            number(ty as u64);
-        }
+    for ty in (0..TYPES).filter(|ty| layouts::of(satellite, *ty).is_some()) {
+        say!(" {ty}");
     }
 }
 
 // The satellites that send an address, a blank ahead of each.
 pub fn owners(address: u8) {
     let mut found = false;
-    for number in 0..Satellite::count() {
-        if let Known::Is(one) = Satellite::from_number(number) {
-            if one.address() == address {
-                text(b" ");
-                satellite(one);
-                found = true;
-            }
+    for one in (0..Satellite::count()).filter_map(Satellite::from_number) {
+        if one.address() == address {
+            text(b" ");
+            satellite(one);
+            found = true;
         }
     }
     if !found {

@@ -1,28 +1,25 @@
 // Refusals in words: the number and meaning of the scope document, then what was found and expected (01, "What is refused, and in which
 // order"; FORMAT 7).
-use crate::{number, satellite, tests, text};
-use satellites::{Known, Satellite};
+use crate::{satellite, say, tests, text};
+use satellites::Satellite;
 
-// Why reading refused a frame.
+// Why reading refused a frame. By number, as in tests: a public function here takes any number, and not a refusal's alone.
 pub fn of_frame(refusal: u32, number: u32, frame: &[u8]) {
     match Satellite::from_number(number) {
-        Known::Is(satellite) => found(refusal, satellite, frame),
-        Known::Unknown => of_number(number),
+        Some(satellite) => found(refusal, satellite, frame),
+        None => of_number(number),
     }
 }
 
 fn found(refusal: u32, satellite: Satellite, frame: &[u8]) {
     meaning(refusal);
     tests::compared(refusal, satellite, frame);
-    whose(refusal, satellite, fronts::type_sent(satellite, frame));
-}
-
-// From the size byte on, what is expected is a matter of the type too.
-fn whose(refusal: u32, one: Satellite, ty: u32) {
+    // From the size byte on, what is expected is a matter of the type too.
     if refusal < refusals::SIZE {
-        return of_satellite(one);
+        of_satellite(satellite);
+    } else {
+        of_type(satellite, fronts::type_sent(satellite, frame));
     }
-    of_type(one, ty);
 }
 
 fn of_satellite(one: Satellite) {
@@ -34,35 +31,31 @@ fn of_satellite(one: Satellite) {
 fn of_type(one: Satellite, ty: u32) {
     text(b" for ");
     satellite(one);
-    text(b" type ");
-    number(ty as u64);
-    text(b")");
+    say!(" type {ty})");
 }
 
 pub fn of_number(found: u32) {
     meaning(refusals::SATELLITE);
-    number(found as u64);
-    text(b")");
+    say!("{found})");
 }
 
 // A type that is asked for, in no frame.
 pub fn of_type_asked(one: Satellite, ty: u32) {
     meaning(refusals::TYPE);
-    number(ty as u64);
-    text(b", expected one of");
+    say!("{ty}, expected one of");
     crate::types_carried(one);
     of_satellite(one);
 }
 
 pub fn of_count(one: Satellite, ty: u32, found: usize) {
     meaning(refusals::VALUES);
-    tests::equal_to(found, layouts::of(one, ty).fields);
+    tests::equal_to(found, fields(one, ty));
     of_type(one, ty);
 }
 
 pub fn of_value(one: Satellite, ty: u32, field: usize, value: u32) {
     meaning(refusals::VALUE);
-    let width = layouts::of(one, ty).width(field);
+    let width = layouts::of(one, ty).map_or(0, |layout| layout.width(field));
     tests::at_most(value as usize, greatest(width));
     text(b" for ");
     crate::name(names::of(one, ty, field));
@@ -80,42 +73,36 @@ fn greatest(width: usize) -> usize {
 
 pub fn of_field(one: Satellite, ty: u32, field: usize) {
     meaning(refusals::FIELD);
-    let fields = layouts::of(one, ty).fields;
-    if 0 < fields {
-        tests::at_most(field, fields - 1);
+    if let Some(last) = fields(one, ty).checked_sub(1) {
+        tests::at_most(field, last);
     }
     of_type(one, ty);
 }
 
+// How many fields there are; none where the type is not carried.
+fn fields(one: Satellite, ty: u32) -> usize {
+    layouts::of(one, ty).map_or(0, |layout| layout.fields)
+}
+
 // Of a code that is given alone, and of one among a day's.
 pub fn of_code(code: u32) {
-    above_255(code);
-    text(b")");
+    say!("{}: a code is above 255 ({code})", refusals::VALUE);
 }
 
 pub fn of_code_at(place: usize, code: u32) {
-    above_255(code);
-    text(b" at place ");
-    number(place as u64);
-    text(b")");
-}
-
-fn above_255(code: u32) {
-    number(refusals::VALUE as u64);
-    text(b": a code is above 255 (");
-    number(code as u64);
+    say!(
+        "{}: a code is above 255 ({code} at place {place})",
+        refusals::VALUE
+    );
 }
 
 pub fn of_codes(found: usize) {
-    number(refusals::VALUES as u64);
-    text(b": number of codes is not ten (");
-    number(found as u64);
-    text(b")");
+    say!("{}: number of codes is not ten ({found})", refusals::VALUES);
 }
 
 // The number, its meaning, and a bracket.
 fn meaning(refusal: u32) {
-    number(refusal as u64);
+    say!("{refusal}");
     match refusal {
         1 => text(b": satellite number above 6 ("),
         2 => text(b": fewer bytes than training, sync, size byte if any, and type byte ("),

@@ -1,5 +1,5 @@
 // Body and checksum of a frame, as they were sent and as the library opens them. Where they lie is told by the table; of a type that it
-// does not have, by the frame's end.
+// does not have, by the frame's end. Satellite and frame are two parameters, as in `fronts`.
 use crate::{bytes, checksum, text};
 use satellites::Satellite;
 use scrambler::{FAR, NEAR, START};
@@ -12,116 +12,90 @@ pub const CHECKSUM: usize = sealing::CHECKSUM_BYTES;
 
 // The body as it was sent.
 pub fn sent(satellite: Satellite, frame: &[u8]) {
-    show(Shown::Sent, satellite, frame);
+    match parts(satellite, frame) {
+        Some((front, _)) => body(front),
+        None => text(b"none"),
+    }
 }
 
 // The body as the fields lie in it.
 pub fn unscrambled(satellite: Satellite, frame: &[u8]) {
-    show(Shown::Unscrambled, satellite, frame);
+    let Some((front, _)) = parts(satellite, frame) else {
+        return text(b"none");
+    };
+    on_copy(front, |front: &mut [u8]| {
+        sealing::open_front(NEAR, FAR, START, front);
+        body(front);
+    });
 }
 
 // The checksum that was sent, and the one that belongs to what was sent ahead of it.
 pub fn sums(satellite: Satellite, frame: &[u8]) {
-    show(Shown::Sums, satellite, frame);
-}
-
-#[derive(Clone, Copy)]
-enum Shown {
-    Sent,
-    Unscrambled,
-    Sums,
-}
-
-fn show(shown: Shown, satellite: Satellite, frame: &[u8]) {
-    let at = satellite.type_byte_at();
-    let end = body_end(satellite, frame);
-    if frame.len() < end {
-        return;
-    }
-    if end <= at {
+    let Some((front, behind)) = parts(satellite, frame) else {
+        return text(b"none");
+    };
+    if behind.is_empty() {
         return text(b"none");
     }
-    let mut copy = [0u8; MOST_BYTES];
-    match shown {
-        Shown::Sent => body(&frame[at..end]),
-        Shown::Unscrambled => open_front(&frame[at..end], &mut copy),
-        Shown::Sums => open(&frame[at..], end - at, &mut copy),
-    }
+    let at = satellite.type_byte_at();
+    let Some(sealed) = frame.get(at..at + front.len() + CHECKSUM) else {
+        bytes(behind, b"");
+        return text(b" and no more");
+    };
+    on_copy(sealed, |sealed: &mut [u8]| {
+        let opened = sealing::open(NEAR, FAR, START, sealed);
+        checksum(opened.sent);
+        text(b" sent, ");
+        checksum(opened.computed);
+        text(b" computed");
+    });
 }
 
 // What stands behind the frame.
 pub fn surplus(satellite: Satellite, frame: &[u8]) {
-    let end = table_end(satellite, frame);
-    if end < frame.len() {
-        return bytes(&frame[end..], b" ");
+    match frame.get(table_end(satellite, frame)..) {
+        Some(surplus) if !surplus.is_empty() => bytes(surplus, b" "),
+        _ => text(b"none"),
     }
-    text(b"none");
 }
 
 // Where the table has a frame of this type end; of a type that is not carried, where the bytes do.
 fn table_end(satellite: Satellite, frame: &[u8]) -> usize {
     let layout = layouts::of(satellite, fronts::type_sent(satellite, frame));
-    if layout.carried {
-        return layout.frame;
-    }
-    frame.len()
+    layout.map_or(frame.len(), |layout| layout.frame)
 }
 
-// Where the checksum begins, which is not ahead of the type byte's end, or the bytes end.
-fn body_end(satellite: Satellite, frame: &[u8]) -> usize {
-    let end = table_end(satellite, frame);
+// The frame from its type byte on: up to where the checksum begins, and from there on. Nothing where the frame ends ahead of its type byte.
+fn parts(satellite: Satellite, frame: &[u8]) -> Option<(&[u8], &[u8])> {
     let at = satellite.type_byte_at();
-    if frame.len() <= at {
-        return frame.len();
+    let sent = frame.get(at..)?;
+    if sent.is_empty() {
+        return None;
     }
-    if end < CHECKSUM {
-        return at + 1;
-    }
-    if end - CHECKSUM <= at {
-        return at + 1;
-    }
-    if frame.len() < end - CHECKSUM {
-        return frame.len();
-    }
-    end - CHECKSUM
+    // A type byte is ahead of the checksum, whatever the table says.
+    let checksum_at = table_end(satellite, frame).saturating_sub(at + CHECKSUM);
+    sent.split_at_checked(checksum_at.max(1))
+        .or(Some((sent, &[])))
 }
 
-// Type byte and as much of the body as is there.
-fn open_front(front: &[u8], copy: &mut [u8]) {
-    let n = front.len();
-    if copy.len() < n {
-        return text(b"too long to show");
+// Opening is in place, and the frame stays.
+fn on_copy<F: FnOnce(&mut [u8])>(sent: &[u8], show: F)
+    requires { F.IsAlwaysCallable show }
+{
+    let mut copy = [0u8; MOST_BYTES];
+    match copy.get_mut(..sent.len()) {
+        Some(copy) => {
+            copy.copy_from_slice(sent);
+            show(copy);
+        }
+        None => text(b"too long to show"),
     }
-    copy[0..n].copy_from_slice(front);
-    sealing::open_front(NEAR, FAR, START, &mut copy[0..n]);
-    body(&copy[0..n]);
-}
-
-// What lies from the type byte on, of which the checksum begins at `end`.
-fn open(sent: &[u8], end: usize, copy: &mut [u8]) {
-    if sent.len() <= end {
-        return text(b"none");
-    }
-    if sent.len() - end < CHECKSUM {
-        bytes(&sent[end..], b"");
-        return text(b" and no more");
-    }
-    let n = end + CHECKSUM;
-    if copy.len() < n {
-        return text(b"too long to show");
-    }
-    copy[0..n].copy_from_slice(&sent[0..n]);
-    let opened = sealing::open(NEAR, FAR, START, &mut copy[0..n]);
-    checksum(opened.sent);
-    text(b" sent, ");
-    checksum(opened.computed);
-    text(b" computed");
 }
 
 // Behind the type byte.
-fn body(part: &[u8]) {
-    if part.len() < 2 {
-        return text(b"none");
+fn body(front: &[u8]) {
+    match front {
+        [_, body @ ..] if !body.is_empty() => bytes(body, b" "),
+        _ => text(b"none"),
     }
-    bytes(&part[1..], b" ");
 }

@@ -1,6 +1,6 @@
 // The tests on a frame (01, "What is refused, and in which order"; FORMAT 7): what each finds, and what it expects. Which of them a frame
-// passes is told by reading, not here.
-use crate::{byte, bytes, half, number, text, types_carried};
+// passes is told by reading, not here. Satellite and frame are two parameters, as in `fronts`.
+use crate::{bytes, say, text, types_carried};
 use satellites::Satellite;
 
 // Room enough for every frame.
@@ -8,130 +8,85 @@ pub const ROOM: usize = layouts::MOST_FIELDS;
 
 // What the test of that number finds in the frame, and what it expects.
 pub fn compared(test: u32, satellite: Satellite, frame: &[u8]) {
-    if test == refusals::SHORT {
-        return at_least(frame.len(), next(satellite.type_byte_at()));
-    }
-    if test == refusals::PREAMBLE {
-        return preamble(satellite, frame);
-    }
     let at = satellite.type_byte_at();
-    if frame.len() <= at {
-        return;
+    match test {
+        refusals::SHORT => at_least(frame.len(), at + 1),
+        refusals::PREAMBLE => preamble(satellite, frame),
+        _ => {
+            if let Some(&type_byte) = frame.get(at) {
+                behind_preamble(test, satellite, frame, type_byte);
+            }
+        }
     }
-    behind_preamble(test, satellite, frame, frame[at]);
 }
 
+// Three functions for three texts: a format is a constant.
 fn at_least(found: usize, expected: usize) {
-    equal_to(found, expected);
-    text(b" or more");
+    say!("{found}, expected {expected} or more");
 }
 
 pub(crate) fn at_most(found: usize, expected: usize) {
-    equal_to(found, expected);
-    text(b" or less");
+    say!("{found}, expected {expected} or less");
 }
 
 pub(crate) fn equal_to(found: usize, expected: usize) {
-    number(found as u64);
-    text(b", expected ");
-    number(expected as u64);
+    say!("{found}, expected {expected}");
 }
 
 fn preamble(satellite: Satellite, frame: &[u8]) {
-    let place = first_other(satellite, frame);
-    if place < frame.len() {
-        text(b"byte ");
-        number(place as u64);
-        text(b" is ");
-        let found = frame[place];
-        byte(found);
-        text(b", expected ");
-        return byte(sent_at(satellite, place, found));
+    let ahead = frame.iter().take(satellite.type_byte_at());
+    for (place, &found) in ahead.enumerate() {
+        let expected = sent_at(satellite, place, found);
+        if found != expected {
+            return say!("byte {place} is {found:02X}, expected {expected:02X}");
+        }
     }
-    number(satellite.training() as u64);
-    text(b" bytes ");
-    byte(fronts::TRAINING);
-    text(b" and ");
+    say!(
+        "{} bytes {:02X} and ",
+        satellite.training(),
+        fronts::TRAINING
+    );
     bytes(&fronts::SYNC, b" ");
     text(b", as expected");
 }
 
-// The first byte of training and sync that is another than is sent; the frame's end where there is none.
-fn first_other(satellite: Satellite, frame: &[u8]) -> usize {
-    for place in 0..frame.len() {
-        if is_other(satellite, place, frame[place]) {
-            return place;
-        }
-    }
-    frame.len()
-}
-
-fn is_other(satellite: Satellite, place: usize, found: u8) -> bool {
-    if place < satellite.type_byte_at() {
-        return found != sent_at(satellite, place, found);
-    }
-    false
-}
-
 // Training, and behind it sync; where a size byte stands, the one that was found.
 fn sent_at(satellite: Satellite, place: usize, found: u8) -> u8 {
-    let training = satellite.training();
-    if place < training {
-        return fronts::TRAINING;
+    match place.checked_sub(satellite.training()) {
+        None => fronts::TRAINING,
+        Some(behind) => fronts::SYNC.get(behind).copied().unwrap_or(found),
     }
-    let behind = place - training;
-    if behind < Satellite::SYNC_BYTES {
-        return fronts::SYNC[behind];
-    }
-    found
 }
 
 fn behind_preamble(test: u32, satellite: Satellite, frame: &[u8], type_byte: u8) {
-    if test == refusals::ADDRESS {
-        return address(satellite, type_byte);
-    }
     let ty = fronts::type_sent(satellite, frame);
-    if test == refusals::TYPE {
-        number(ty as u64);
-        text(b", expected one of");
-        return types_carried(satellite);
+    // A type that is not carried fails ahead of the tests that ask these.
+    let (from_type_byte, length, fields) = layouts::of(satellite, ty).map_or(
+        (0, 0, 0),
+        |layout| (layout.size, layout.frame, layout.fields),
+    );
+    match test {
+        refusals::ADDRESS => address(satellite, type_byte),
+        refusals::TYPE => {
+            say!("{ty}, expected one of");
+            types_carried(satellite);
+        }
+        refusals::SIZE => size(satellite, frame, from_type_byte),
+        refusals::LENGTH => equal_to(frame.len(), length),
+        refusals::ROOM => at_least(ROOM, fields),
+        _ => crate::sent_parts::sums(satellite, frame),
     }
-    let layout = layouts::of(satellite, ty);
-    if test == refusals::SIZE {
-        return size(satellite, frame, layout.size);
-    }
-    if test == refusals::LENGTH {
-        return equal_to(frame.len(), layout.frame);
-    }
-    if test == refusals::ROOM {
-        return at_least(ROOM, layout.fields);
-    }
-    crate::sent_parts::sums(satellite, frame);
 }
 
 fn address(satellite: Satellite, type_byte: u8) {
-    half(type_byte);
-    text(b", expected ");
-    half(satellite.address());
+    say!("{:X}, expected {:X}", type_byte % 16, satellite.address());
 }
 
+// The size byte is the last ahead of the type byte.
 fn size(satellite: Satellite, frame: &[u8], expected: usize) {
-    let at = satellite.type_byte_at();
-    if satellite.has_size_byte() {
-        if at <= frame.len() {
-            if 0 < at {
-                return equal_to(wide(frame[at - 1]), expected);
-            }
-        }
+    let ahead = frame.get(..satellite.type_byte_at());
+    match ahead.and_then(|ahead| ahead.last()) {
+        Some(&found) if satellite.has_size_byte() => equal_to(usize::from(found), expected),
+        _ => text(b"none, expected none"),
     }
-    text(b"none, expected none");
-}
-
-// No place is so great.
-fn next(place: usize) -> usize {
-    if place < 65536 { place + 1 } else { place }
-}
-
-fn wide(byte: u8) -> usize {
-    byte as usize
 }

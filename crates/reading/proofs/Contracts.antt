@@ -5,12 +5,13 @@
 use mathlib.Core.Path.{◌≡◌}
 use Rattle.bits.specs.Bits.{Bytes}
 use Rattle.satellites.specs.Satellites.{known}
+use Rattle.frames.specs.Answers.{read_in_numbers}
 use Rattle.frames.specs.Registers.{register_of}
 use Rattle.frames.specs.Reading.{reading_by, room_after_by}
 use Rattle.reading.proofs.read.Reads as read
 
 pub read-says : (κs a r s : _) → read.Post κs a r s
-    → (r ≡ reading_by register_of (known a.0) a.1.0.now a.1.1.0.now)
+    → (read_in_numbers r ≡ reading_by register_of (known a.0) a.1.0.now a.1.1.0.now)
     × ((s.1.1.0.now ≡ room_after_by register_of (known a.0) a.1.0.now a.1.1.0.now)
     × ((s.1.0.now ≡ a.1.0.now) × Bytes a.1.0.now))
 read-says κs a r s p = p

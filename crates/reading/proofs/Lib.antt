@@ -1,3 +1,3 @@
 mod Answers
-pub mod Contracts
 pub mod Determined
+pub mod Contracts

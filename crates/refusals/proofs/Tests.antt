@@ -103,7 +103,7 @@ unfoldable pub distinct : List Test → Bool
 distinct [] = true
 distinct (t ∷ ts) = lacks t.number ts && distinct ts
 
-not-answered : (k : ℕ) (ts : List Test) → T (lacks k ts) → k ≢ 0 → refusal ts ≢ k
+pub not-answered : (k : ℕ) (ts : List Test) → T (lacks k ts) → k ≢ 0 → refusal ts ≢ k
 unfolding refusal lacks
 not-answered k [] none some e = some (sym e)
 not-answered k (t ∷ ts) none some e =

@@ -1,6 +1,8 @@
 -- A call's tests in their order (01, "What is refused, and in which order"; FORMAT 7).
 use Prim.{⊥}
-use Rattle.std.specs.Prelude.{ℕ, ◌≡◌, ◌⊎◌, Bool, true, false, ◌&&◌, cond, List, [], ◌∷◌, eqb}
+use Rattle.std.specs.Prelude.{ℕ, ◌≡◌, ◌⊎◌, Bool, true, false, ◌&&◌, cond, List, [], ◌∷◌, eqb, Result, Ok, Err}
+use Rattle.refusals.specs.declared.Refusal.{Refusal}
+use Rattle.refusals.specs.Refusals.{refusal_at}
 
 -- a test's number, and whether it holds
 pub record Test : Type 0 where
@@ -14,6 +16,11 @@ test number holds = record { number = number; holds = holds }
 unfoldable pub refusal : List Test → ℕ
 refusal [] = 0
 refusal (t ∷ ts) = cond t.holds (refusal ts) t.number
+
+-- the same as a result: the refusal of the first test that fails, with the place that 11 tells, and a value where none does
+unfoldable pub answer_by : {A : Type 0} → List Test → ℕ → A → Result A Refusal
+answer_by [] place value = Ok value
+answer_by (t ∷ ts) place value = cond t.holds (answer_by ts place value) (Err (refusal_at t.number place))
 
 -- whether the test of number k holds; a number that no test has fails nothing
 unfoldable pub holding : ℕ → List Test → Bool

@@ -1,9 +1,12 @@
 // The numbers of refusals, by name (01, "What is refused, and in which order"; FORMAT 7). Each later request adds its own here, so that
 // all numbers are side by side.
 //
-// What a call answers is the number of the first of its tests that fails: specs/Tests.antt has a call's tests in order, and proofs/ the
-// laws about them.
+// What a call answers is the refusal of the first of its tests that fails: specs/Tests.antt has a call's tests in order, and proofs/ the laws
+// about them. The numbers are constants beside the enum, since `printing` takes any number.
 #![tactic(auto)]
+
+ghost use Rattle.std.specs.Prelude.{◌≡◌};
+ghost use Rattle.refusals.specs.Refusals.{number_of, place_in};
 
 pub const ACCEPTED: u32 = 0;
 
@@ -45,3 +48,53 @@ pub const OUTPUT: u32 = 12;
 
 // No field of that number.
 pub const FIELD: u32 = 13;
+
+// Why a call refuses. 11 names what it found: the field whose value does not fit, or the place of the code.
+#[derive(Clone, Copy, Debug, PartialEq, Eq)]
+pub enum Refusal {
+    Satellite,
+    Short,
+    Preamble,
+    Address,
+    NotCarried,
+    Size,
+    Length,
+    Room,
+    Checksum,
+    Values,
+    Value(usize),
+    Output,
+    Field,
+}
+
+impl Refusal {
+    // The number of the scope document.
+    pub fn number(self) -> u32
+        ensures { result ≡ number_of self }
+    {
+        match self {
+            Refusal::Satellite => SATELLITE,
+            Refusal::Short => SHORT,
+            Refusal::Preamble => PREAMBLE,
+            Refusal::Address => ADDRESS,
+            Refusal::NotCarried => TYPE,
+            Refusal::Size => SIZE,
+            Refusal::Length => LENGTH,
+            Refusal::Room => ROOM,
+            Refusal::Checksum => CHECKSUM,
+            Refusal::Values => VALUES,
+            Refusal::Value(_) => VALUE,
+            Refusal::Output => OUTPUT,
+            Refusal::Field => FIELD,
+        }
+    }
+    // The field or the place that 11 names; 0 with every other.
+    pub fn place(self) -> usize
+        ensures { result ≡ place_in self }
+    {
+        match self {
+            Refusal::Value(place) => place,
+            _ => 0,
+        }
+    }
+}

@@ -8,8 +8,8 @@ use mathlib.Core.List.{List, [], ◌∷◌}
 use lib.Dec.{leb}
 use lib.ListN.{get_or}
 use Rattle.satellites.specs.declared.Satellite.TheVariants.{HadesD, HadesIcm, MariaG, Unne1, HadesR, Unne1b, HadesSa}
-use Rattle.satellites.specs.declared.Known.{Known}
-use Rattle.satellites.specs.declared.Known.TheVariants.{Is, Unknown}
+use Rattle.std.specs.Prelude.{Option, Some, None}
+use Rattle.satellites.specs.declared.Satellite.{Satellite}
 use Rattle.satellites.specs.Satellites.{number_of, known, values_in}
 use Rattle.satellites.specs.Paper.{Constants, paper}
 use Rattle.satellites.proofs.Laws.{known-number}
@@ -23,15 +23,15 @@ use Rattle.satellites.proofs.Satellite.has_size_byte.Reads as has-size-byte
 use Rattle.satellites.proofs.Satellite.type_byte_at.Reads as type-byte-at
 
 -- "0 HADES-D, 1 HADES-ICM, 2 MARIA-G, 3 UNNE-1, 4 HADES-R, 5 UNNE-1B, 6 HADES-SA"
-abbrev by_number : List Known
-by_number = Is HadesD ∷ Is HadesIcm ∷ Is MariaG ∷ Is Unne1 ∷ Is HadesR ∷ Is Unne1b ∷ Is HadesSa ∷ []
+abbrev by_number : List (Option Satellite)
+by_number = Some HadesD ∷ Some HadesIcm ∷ Some MariaG ∷ Some Unne1 ∷ Some HadesR ∷ Some Unne1b ∷ Some HadesSa ∷ []
 
 -- "The seven satellites"
 pub count-says : (κs a r s : _) → count.Post κs a r s → r ≡ 7
 count-says κs a r s p = p
 
 -- the satellite of the very number, uncut
-pub from-number-says : (κs a r s : _) → from-number.Post κs a r s → r ≡ get_or by_number a.0 Unknown
+pub from-number-says : (κs a r s : _) → from-number.Post κs a r s → r ≡ get_or by_number a.0 None
 from-number-says κs a r s p = p.0
 
 -- refusal 1, "satellite number above 6", and no number; or 0 and the number itself
@@ -40,7 +40,7 @@ pub from-number-values : (κs a r s : _) → from-number.Post κs a r s
 from-number-values κs a r s p = p.1
 
 -- the number names that satellite
-pub number-says : (κs a r s : _) → number.Post κs a r s → get_or by_number r Unknown ≡ Is a.0
+pub number-says : (κs a r s : _) → number.Post κs a r s → get_or by_number r None ≡ Some a.0
 number-says κs a r s p = ap known p ∙ known-number a.0
 
 -- the constants are the paper's for the satellite's number

@@ -4,7 +4,7 @@ use Prim.Native.Nat.{ℕ}
 use mathlib.Core.Path.{◌≡◌, refl, ◌∙◌, ap}
 use Rattle.satellites.specs.declared.Satellite.{Satellite}
 use Rattle.satellites.specs.declared.Satellite.TheVariants.{HadesD, HadesIcm, MariaG, Unne1, HadesR, Unne1b, HadesSa}
-use Rattle.satellites.specs.declared.Known.TheVariants.{Is}
+use Rattle.std.specs.Prelude.{Some}
 use Rattle.satellites.specs.Satellites.{number_of, known, address_of, training_of, size_byte_of}
 use Rattle.satellites.specs.Paper.{Constants, paper}
 use Rattle.satellites.proofs.Laws.{number-known}
@@ -22,5 +22,5 @@ as-printed Unne1b = refl
 as-printed HadesSa = refl
 
 -- and for the number by which a call names it
-pub paper-known : (n : ℕ) (s : Satellite) → known n ≡ Is s → constants_of s ≡ paper n
+pub paper-known : (n : ℕ) (s : Satellite) → known n ≡ Some s → constants_of s ≡ paper n
 paper-known n s named = as-printed s ∙ ap paper (number-known n s named)

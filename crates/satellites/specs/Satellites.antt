@@ -1,9 +1,7 @@
 -- The seven satellites (01, "Scope and rules" and "From antenna order to bytes"; FORMAT 2 and 3).
-use Rattle.std.specs.Prelude.{ℕ, ◌+◌, Bool, true, false, cond, List, [], ◌∷◌, map, get_or, leb}
+use Rattle.std.specs.Prelude.{ℕ, ◌+◌, Bool, true, false, cond, List, [], ◌∷◌, map, get_or, leb, Option, Some, None}
 use Rattle.satellites.specs.declared.Satellite.{Satellite}
 use Rattle.satellites.specs.declared.Satellite.TheVariants.{HadesD, HadesIcm, MariaG, Unne1, HadesR, Unne1b, HadesSa}
-use Rattle.satellites.specs.declared.Known.{Known}
-use Rattle.satellites.specs.declared.Known.TheVariants.{Is, Unknown}
 
 -- "The seven satellites, by their number in every call"
 abbrev pub number_of : Satellite → ℕ
@@ -20,8 +18,8 @@ abbrev pub seven : List Satellite
 seven = HadesD ∷ HadesIcm ∷ MariaG ∷ Unne1 ∷ HadesR ∷ Unne1b ∷ HadesSa ∷ []
 
 -- the satellite of a number; every number above 6 is unknown
-abbrev pub known : ℕ → Known
-known n = get_or (map Is seven) n Unknown
+abbrev pub known : ℕ → Option Satellite
+known n = get_or (map Some seven) n None
 
 -- an answer in the paper's numbers: the refusal's number or 0, and the satellite's number if there is one
 pub record Values : Type 0 where
@@ -29,9 +27,9 @@ pub record Values : Type 0 where
   pub numbers : List ℕ
 
 -- of each case of an answer; 1 is "satellite number above 6" (01, "What is refused, and in which order"; FORMAT 7)
-abbrev pub values_in : Known → Values
-values_in (Is s) = record { refusal = 0; numbers = number_of s ∷ [] }
-values_in Unknown = record { refusal = 1; numbers = [] }
+abbrev pub values_in : Option Satellite → Values
+values_in (Some s) = record { refusal = 0; numbers = number_of s ∷ [] }
+values_in None = record { refusal = 1; numbers = [] }
 
 -- the same, computed from the number that was asked about
 abbrev pub values_of : ℕ → Values

@@ -7,7 +7,7 @@
 ghost use Rattle.std.specs.Prelude.{◌≡◌, length};
 ghost use Rattle.satellites.specs.Satellites.{seven, known, values_in, values_of, number_of, address_of, training_of, size_byte_of, type_byte_at};
 
-#[derive(Clone, Copy)]
+#[derive(Clone, Copy, Debug, PartialEq, Eq)]
 pub enum Satellite {
     HadesD,
     HadesIcm,
@@ -16,13 +16,6 @@ pub enum Satellite {
     HadesR,
     Unne1b,
     HadesSa,
-}
-
-// What a number names: one of the seven, or none.
-#[derive(Clone, Copy)]
-pub enum Known {
-    Is(Satellite),
-    Unknown,
 }
 
 impl Satellite {
@@ -42,19 +35,19 @@ impl Satellite {
     }
 
     // The satellite of that number. The number is not cut down first: 259 is not 3.
-    pub fn from_number(number: u32) -> Known
+    pub fn from_number(number: u32) -> Option<Satellite>
         ensures value { result ≡ known number }
         ensures result_value { values_in result ≡ values_of number }
     {
         match number {
-            0 => Known::Is(Satellite::HadesD),
-            1 => Known::Is(Satellite::HadesIcm),
-            2 => Known::Is(Satellite::MariaG),
-            3 => Known::Is(Satellite::Unne1),
-            4 => Known::Is(Satellite::HadesR),
-            5 => Known::Is(Satellite::Unne1b),
-            6 => Known::Is(Satellite::HadesSa),
-            _ => Known::Unknown,
+            0 => Some(Satellite::HadesD),
+            1 => Some(Satellite::HadesIcm),
+            2 => Some(Satellite::MariaG),
+            3 => Some(Satellite::Unne1),
+            4 => Some(Satellite::HadesR),
+            5 => Some(Satellite::Unne1b),
+            6 => Some(Satellite::HadesSa),
+            _ => None,
         }
     }
 

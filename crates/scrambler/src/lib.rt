@@ -4,8 +4,9 @@
 // comes out is on air, and so remembered.
 //
 // A caller says which distances and which start it goes by, as numbers: the `far` latest sent bits, the earliest the highest. Their
-// like comes back as it stands behind the part, so a body can be worked on in several parts. They are numbers, not a struct, since a
-// compiler sees through a call with numbers: with distances that it knows a step takes half the time.
+// like comes back as it stands behind the part, so a body can be worked on in several parts.
+// Numbers, not a struct: by a struct opening a part took 1.25 times as long, and sealing 1.39 (x86-64), since the compiler no longer saw that
+// they are known.
 #![tactic(auto)]
 
 mod walk;
@@ -20,7 +21,7 @@ pub const FAR: u32 = 17;
 
 pub const START: u32 = 0x2C35_0000 % (1 << FAR);
 
-#[derive(Clone, Copy)]
+#[derive(Clone, Copy, Debug, PartialEq, Eq)]
 pub enum Direction {
     Scramble,
     Unscramble,
@@ -33,7 +34,7 @@ pub fn scramble(near: u32, far: u32, start: u32, part: &mut [u8]) -> u32
     walk::pass(Direction::Scramble, near, far, start, part)
 }
 
-// The inverse, in the same way.
+// The inverse, in the same way. Two names over one walk: a call that hands in its direction is no plainer.
 pub fn unscramble(near: u32, far: u32, start: u32, part: &mut [u8]) -> u32
     ensures { Passes Unscramble (from near far start) part.old (from near far result) part.new }
 {

@@ -10,22 +10,14 @@ use crate::Direction;
 pub(crate) fn pass(way: Direction, near: u32, far: u32, start: u32, part: &mut [u8]) -> u32
     ensures { Passes way (from near far start) part.old (from near far result) part.new }
 {
-    if near < 1 {
-        return start;
-    }
-    if far <= near {
-        return start;
-    }
-    if 32 < far {
+    if near < 1 || far <= near || 32 < far {
         return start;
     }
     let mut sent = start;
-    let mut i = 0;
-    while i < part.len() {
-        let p = pass_byte(way, near, far, sent, part[i]);
-        part[i] = p.byte;
-        sent = p.sent;
-        i += 1;
+    for byte in part.iter_mut() {
+        let passed = pass_byte(way, near, far, sent, *byte);
+        *byte = passed.byte;
+        sent = passed.sent;
     }
     lowest(far, sent)
 }
@@ -44,9 +36,7 @@ fn pass_byte(way: Direction, near: u32, far: u32, sent: u32, byte: u8) -> Passed
 {
     let mut held = sent;
     let mut out: u8 = 0;
-    let mut left: u32 = 8;
-    while 0 < left {
-        left -= 1;
+    for left in (0..u8::BITS).rev() {
         let bit = (byte as u32 >> left) % 2;
         let crossed = step(near, far, held, bit);
         // of 32 sent bits the earliest is let go
@@ -67,7 +57,7 @@ fn step(near: u32, far: u32, sent: u32, bit: u32) -> u32
     (bit + (sent >> (near - 1)) % 2 + (sent >> (far - 1)) % 2) % 2
 }
 
-// Which of the two is on air.
+// Which of the two is on air. A switch: a type parameter would want a trait and two types beside the enum, by which definitions and laws go.
 fn on_air(way: Direction, into: u32, out: u32) -> u32
     ensures { result ≡ on_air way into out }
 {

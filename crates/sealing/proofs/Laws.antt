@@ -1,13 +1,13 @@
 -- What callers of `open` and `seal` go by: what these answer and leave of a part, in the words of `frames`.
 -- Assumes nothing.
-use Prim.Native.Nat.{ℕ, suc, ◌+◌, ◌-◌, ◌≤◌, ◌<◌}
+use Prim.Native.Nat.{ℕ, suc, ◌+◌, ◌-◌, ◌≤◌}
 use native.Mathlib.Omega.{arith}
 use mathlib.Core.Path.{◌≡◌, sym, ◌∙◌, ap, ap₂}
-use mathlib.Core.List.{List, [], ◌∷◌, ◌++◌, append_assoc}
+use mathlib.Core.List.{List, [], ◌∷◌, ◌++◌}
 use lib.Dec.{eqb}
 use lib.ListN.{length, get_or, take, drop, length-append, length-drop}
-use lib.Seq.{take_all, take_at, take-length}
-use borrow.Author.Tests.{le-leb, lt-leb}
+use lib.Seq.{take_all, take_at}
+use borrow.Author.Tests.{le-leb}
 use Rattle.bits.specs.Bits.{number, bits_of, field, field_answer}
 use Rattle.bits.proofs.Bytes.{length-bits_of}
 use Rattle.bits.proofs.Fields.{is_field_lem}
@@ -28,13 +28,6 @@ last-field part h =
     let two : length last ≡ 2 = length-drop (length part - 2) part ∙ omega arith in
     rw (is_field_lem 0 16 last (omega arith) (omega (arith, two)))
     (ap number (take_all 16 (bits_of last) (rw length-bits_of (omega (arith, two)))))
-
--- what is lent of a longer copy
-pub copied : (part copy : List ℕ) → length part ≤ length copy
-    → take (length part - 0) (take (length part) part ++ drop (length part) copy) ≡ part
-copied part copy enough =
-    let whole = take-length part in
-    take_at (take (length part) part) (drop (length part) copy) (length part - 0) (ap length whole ∙ omega arith) ∙ whole
 
 module _ (r : Register) where
   length-clear : (part : List ℕ) → 3 ≤ length part → length (clear r part) ≡ length part - 2
@@ -68,21 +61,16 @@ module _ (r : Register) where
       → eqb (sums_of r part).sent (sums_of r part).computed ≡ checksum_right r part
   sums-right part h = ap₂ eqb (last-field part (omega (arith, h))) (ap checksum (front-clear part h))
 
-  -- the unscrambled body, where more bytes lie behind the part
-  pub body-told : (part rest : List ℕ) → 3 ≤ length part
-      → take (length part - 2 - 1) (drop 1 (opened_part r part ++ rest)) ≡ clear_body r part
-  body-told part rest h =
+  -- the unscrambled body
+  pub body-told : (part : List ℕ) → 3 ≤ length part → take (length part - 2 - 1) (drop 1 (opened_part r part)) ≡ clear_body r part
+  body-told part h =
       let sum = drop (length part - 2) part in
-      ap (λ (l : List ℕ). take (length part - 2 - 1) (drop 1 ((l ++ sum) ++ rest))) (front-clear part h)
-      ∙ ap (take (length part - 2 - 1)) (append_assoc (clear_body r part) sum rest)
-      ∙ take_at (clear_body r part) (sum ++ rest) (length part - 2 - 1) (omega (arith, length-clear part h))
+      ap (λ (l : List ℕ). take (length part - 2 - 1) (drop 1 (l ++ sum))) (front-clear part h)
+      ∙ take_at (clear_body r part) sum (length part - 2 - 1) (omega (arith, length-clear part h))
 
   -- its first byte is the type byte still
   pub first-told : (part : List ℕ) → 3 ≤ length part → get_or (opened_part r part) 0 0 ≡ get_or part 0 0
   first-told part h = ap (λ (l : List ℕ). get_or (l ++ drop (length part - 2) part) 0 0) (front-clear part h)
-
-  pub not-sealed : (part : List ℕ) → length part < 3 → sealed_part r part ≡ part
-  not-sealed part short = rw (lt-leb 3 (length part) short)
 
   pub seals : (part : List ℕ) → 3 ≤ length part → sealed_part r part ≡ sealed r (get_or part 0 0) (body_in part)
   seals part h = rw (le-leb 3 (length part) h)

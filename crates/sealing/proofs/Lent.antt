@@ -2,7 +2,7 @@
 -- Assumes nothing.
 use Prim.Native.Nat.{ℕ, suc, ◌+◌, ◌-◌, ◌≤◌}
 use native.Mathlib.Omega.{arith}
-use mathlib.Core.Path.{◌≡◌, sym, ◌∙◌, ap}
+use mathlib.Core.Path.{◌≡◌, ◌∙◌, ap}
 use mathlib.Core.List.{List, [], ◌∷◌, ◌++◌}
 use lib.ListN.{length, take, drop, set, length-append, length-drop}
 use lib.Seq.{take_at}
@@ -26,9 +26,6 @@ module _ (x : ℕ) (xs : List ℕ) (m : ℕ) (long : length xs ≡ m + 2) where
 
   pub put_is : (ys : List ℕ) → put part ys ≡ x ∷ (ys ++ drop m xs)
   put_is ys = let e : length part - 2 - 1 ≡ m = omega (arith, long) in ap (λ (j : ℕ). x ∷ (ys ++ drop j xs)) e
-
-  pub lent-body-is : lent part ≡ body_in part
-  lent-body-is = lent_is ∙ sym (body_is x xs m long)
 
   pub sum-length : length (drop m xs) ≡ 2
   sum-length = rw length-drop (omega (arith, long))

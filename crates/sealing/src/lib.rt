@@ -19,7 +19,7 @@ pub const CHECKSUM_BYTES: usize = 2;
 const LEAST_BYTES: usize = 3;
 
 // The checksum that was sent, and the one that belongs to what was sent ahead of it.
-#[derive(Clone, Copy)]
+#[derive(Clone, Copy, Debug, PartialEq, Eq)]
 pub struct Sums {
     pub sent: u32,
     pub computed: u32,
@@ -29,10 +29,9 @@ pub struct Sums {
 pub fn open_front(near: u32, far: u32, start: u32, front: &mut [u8])
     ensures { front.new ≡ opened_front (from near far start) front.old }
 {
-    if front.len() == 0 {
-        return;
+    if !front.is_empty() {
+        scrambler::unscramble(near, far, start, &mut front[1..]);
     }
-    scrambler::unscramble(near, far, start, &mut front[1..]);
 }
 
 // Opens a part, in place: the body between type byte and checksum is unscrambled. The checksum is right where both sums are the same.
@@ -40,21 +39,12 @@ pub fn open(near: u32, far: u32, start: u32, part: &mut [u8]) -> Sums
     ensures value { result ≡ sums_of (from near far start) part.old }
     ensures part_after { part.new ≡ opened_part (from near far start) part.old }
 {
-    let end = checksum_at(part.len());
-    open_front(near, far, start, &mut part[0..end]);
-    let sent = bits::read_field(&part[end..], 0, 16);
-    let computed = checksum::of(&part[0..end]) as u32;
-    Sums { sent, computed }
-}
-
-// Where the checksum of so many bytes begins; at the first of them where they are too few.
-fn checksum_at(bytes: usize) -> usize
-    ensures { result ≡ bytes - 2 }
-{
-    if bytes < CHECKSUM_BYTES {
-        return 0;
+    let (front, last) = part.split_at_mut(part.len().saturating_sub(CHECKSUM_BYTES));
+    open_front(near, far, start, front);
+    Sums {
+        sent: bits::read_field(last, 0, 16),
+        computed: checksum::of(front) as u32,
     }
-    bytes - CHECKSUM_BYTES
 }
 
 // Seals a part whose body is in the clear: writes the checksum behind the body, and lends the body's part on to be scrambled.
@@ -64,9 +54,7 @@ pub fn seal(near: u32, far: u32, start: u32, part: &mut [u8])
     if part.len() < LEAST_BYTES {
         return;
     }
-    let end = part.len() - CHECKSUM_BYTES;
-    let sum = checksum::of(&part[0..end]);
-    scrambler::scramble(near, far, start, &mut part[1..end]);
-    part[end] = (sum / 256) as u8;
-    part[end + 1] = (sum % 256) as u8;
+    let (front, last) = part.split_at_mut(part.len() - CHECKSUM_BYTES);
+    last.copy_from_slice(&checksum::of(front).to_be_bytes());
+    scrambler::scramble(near, far, start, &mut front[1..]);
 }

@@ -7,7 +7,6 @@ pub mod Meanings
 pub mod Order
 pub mod Paper
 pub mod Places
-pub mod Readable
 pub mod Steps
 pub mod Told
 pub mod Worked

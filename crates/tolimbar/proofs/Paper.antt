@@ -8,11 +8,11 @@ use mathlib.Core.List.{List, [], ◌∷◌}
 use lib.IntN.{pos}
 use lib.ListN.{length, get_or}
 use lib.Ieee.{Float, fin}
-use Rattle.temperatures.specs.declared.Answer.{Answer}
-use Rattle.temperatures.specs.declared.Answer.TheVariants.{Is}
-use Rattle.temperatures.specs.declared.Day.{Day}
+use Rattle.std.specs.Prelude.{Result, Ok}
+use Rattle.refusals.specs.declared.Refusal.{Refusal}
+use Rattle.temperatures.specs.declared.Reading.{Reading}
 use Rattle.temperatures.specs.Readings.{answering, values_in}
-use Rattle.temperatures.specs.Summaries.{day_of}
+use Rattle.temperatures.specs.Summaries.{Day, day_of}
 use Rattle.temperatures.proofs.Exact.{degrees_at}
 use Rattle.temperatures.proofs.Meanings.{is-degrees, has-reading, has-none}
 use Rattle.temperatures.proofs.Paper.{not-ten-codes, lowest-offends}
@@ -25,16 +25,16 @@ use Rattle.tolimbar.specs.Answers.{told_in_c, placed, day_in_c, coldest_warmest,
 abbrev pub Says : ℕ → List Float → Told → List Float → Type 0
 Says code before told after = (told_in_c (answering code) ≡ told) × (placed (values_in (answering code)).degrees before ≡ after)
 
-says-as : (code : ℕ) (before : List Float) (answer : Answer) → answering code ≡ answer
+says-as : (code : ℕ) (before : List Float) (answer : Result Reading Refusal) → answering code ≡ answer
     → Says code before (told_in_c answer) (placed (values_in answer).degrees before)
-says-as code before answer e = (ap told_in_c e, ap (λ (a : Answer). placed (values_in a).degrees before) e)
+says-as code before answer e = (ap told_in_c e, ap (λ (a : Result Reading Refusal). placed (values_in a).degrees before) e)
 
 -- "0 to 254": kind 1, and the degrees are in their place; that they are exactly the half degrees over two is `degrees-exact` of the
 -- temperatures
 pub told-degrees : (code : ℕ) (before : List Float) → code ≤ 254
     → Says code before (record { refusal = 0; kind = 1 }) (degrees_at code ∷ [])
 told-degrees code before most =
-    says-as code before (Is _) (has-reading code (omega (arith, most)) ∙ ap Is (is-degrees code (λ e. omega (arith, most, e))))
+    says-as code before (Ok _) (has-reading code (omega (arith, most)) ∙ ap Ok (is-degrees code (λ e. omega (arith, most, e))))
 
 -- "255 is a sensor error": accepted, kind 2, and the place stays
 pub told-error : (before : List Float) → Says 255 before (record { refusal = 0; kind = 2 }) before

@@ -1,13 +1,12 @@
 -- What C is answered (01, "What is refused, and in which order" and "Temperatures"; FORMAT 7 to 9): the numbers that Rattle's
 -- callers are answered, in structs of integers, and beside them the floats and counts that are left in lent arrays.
-use Rattle.std.specs.Prelude.{ℕ, List, [], ◌∷◌, Float}
-use Rattle.frames.specs.declared.Reading as frames-reading
-use Rattle.frames.specs.declared.Writing as frames-writing
+use Rattle.std.specs.Prelude.{ℕ, List, [], ◌∷◌, Float, Result, Ok, Err}
+use Rattle.refusals.specs.declared.Refusal.{Refusal}
+use Rattle.refusals.specs.Refusals.{number_of}
+use Rattle.frames.specs.Answers as frames
 use Rattle.temperatures.specs.declared.Reading as temperatures-reading
 use Rattle.temperatures.specs.declared.Reading.TheVariants.{Degrees, SensorError}
-use Rattle.temperatures.specs.declared.Answer.{Answer}
-use Rattle.temperatures.specs.declared.Answer.TheVariants.{Is, Refused}
-use Rattle.temperatures.specs.declared.Day as temperatures-day
+use Rattle.temperatures.specs.Summaries as temperatures
 use Rattle.temperatures.specs.declared.Summary.{Summary}
 use Rattle.tolimbar.specs.declared.Reading.{Reading}
 use Rattle.tolimbar.specs.declared.Writing.{Writing}
@@ -15,11 +14,11 @@ use Rattle.tolimbar.specs.declared.Told.{Told}
 use Rattle.tolimbar.specs.declared.Day.{Day}
 
 -- "It answers the number, the type and the field count"
-abbrev pub reading_in_c : frames-reading.Reading → Reading
+abbrev pub reading_in_c : frames.Reading → Reading
 reading_in_c told = record { refusal = told.refusal; ty = told.ty; count = told.count }
 
 -- "It answers the length"; with 11 the field
-abbrev pub writing_in_c : frames-writing.Writing → Writing
+abbrev pub writing_in_c : frames.Writing → Writing
 writing_in_c told = record { refusal = told.refusal; answer = told.answer }
 
 -- "A reading is either so many degrees .. or a sensor error": of each case of a reading, its kind
@@ -28,9 +27,9 @@ read_in_c (Degrees x) = record { refusal = 0; kind = 1 }
 read_in_c SensorError = record { refusal = 0; kind = 2 }
 
 -- "a code above 255 gets refusal 11 and no reading"
-abbrev pub told_in_c : Answer → Told
-told_in_c (Is reading) = read_in_c reading
-told_in_c Refused = record { refusal = 11; kind = 0 }
+abbrev pub told_in_c : Result temperatures-reading.Reading Refusal → Told
+told_in_c (Ok reading) = read_in_c reading
+told_in_c (Err refusal) = record { refusal = number_of refusal; kind = 0 }
 
 -- a place for degrees: they take it where there are any; otherwise it stays
 abbrev pub placed : List Float → List Float → List Float
@@ -38,7 +37,7 @@ placed [] place = place
 placed (x ∷ xs) place = x ∷ xs
 
 -- "11 with the lowest offending place"
-abbrev pub day_in_c : temperatures-day.Day → Day
+abbrev pub day_in_c : temperatures.Day → Day
 day_in_c day = record { refusal = day.refusal; place = day.place }
 
 -- "its coldest and warmest degrees and how many sensors answered"

@@ -3,12 +3,13 @@
 // the same names, with the same contracts, and include/tolimbar.h declares them.
 //
 // A slice is a pointer and a length there. Numbers have 32 bits. What is answered are integers, in a struct of at most 16 bytes;
-// floats and further counts go into arrays that the caller lends.
+// floats and further counts go into arrays that the caller lends. C compares and prints the structs; nothing here does.
 #![tactic(auto)]
 
-ghost use Rattle.std.specs.Prelude.{◌≡◌};
+ghost use Rattle.std.specs.Prelude.{◌≡◌, ◌^◌, ◌<◌};
 ghost use Rattle.bits.specs.Bits.{Bytes};
 ghost use Rattle.satellites.specs.Satellites.{known};
+ghost use Rattle.frames.specs.Answers.{written_in_numbers};
 ghost use Rattle.frames.specs.Reading.{reading, room_after};
 ghost use Rattle.frames.specs.Writing.{writing, output_after};
 ghost use Rattle.frames.specs.Editing.{editing, frame_after};
@@ -16,9 +17,9 @@ ghost use Rattle.temperatures.specs.Readings.{answering, values_in, degrees_in};
 ghost use Rattle.temperatures.specs.Summaries.{day_of};
 ghost use Rattle.tolimbar.specs.Answers.{reading_in_c, writing_in_c, told_in_c, read_in_c, placed, day_in_c, coldest_warmest, count_in};
 
-use temperatures::Answer;
+use refusals::{ACCEPTED, Refusal};
 
-// The kinds of readings: they are added to, and never renumbered. Refused codes have none.
+// The kinds of readings, numbers for C: they are added to, and never renumbered. Refused codes have none.
 const NONE: u32 = 0;
 
 const DEGREES: u32 = 1;
@@ -67,12 +68,17 @@ pub fn tolimbar_read(satellite: u32, frame: &[u8], room: &mut [u32]) -> Reading
     ensures frame_unchanged { frame.exit.now ≡ frame.entry.now }
     ensures bytes { Bytes frame.now }
 {
-    let told = reading::read(satellite, frame, room);
-    let count = told.count as u32;
-    Reading {
-        refusal: told.refusal,
-        ty: told.ty,
-        count,
+    match reading::read(satellite, frame, room) {
+        Ok(accepted) => Reading {
+            refusal: ACCEPTED,
+            ty: accepted.ty,
+            count: accepted.count as u32,
+        },
+        Err(refusal) => Reading {
+            refusal: refusal.number(),
+            ty: 0,
+            count: 0,
+        },
     }
 }
 
@@ -82,12 +88,7 @@ pub fn tolimbar_write(satellite: u32, ty: u32, values: &[u32], output: &mut [u8]
     ensures output_after { output.new ≡ output_after (known satellite) ty values.now output.old }
     ensures values_unchanged { values.exit.now ≡ values.entry.now }
 {
-    let told = writing::write(satellite, ty, values, output);
-    let answer = told.answer as u32;
-    Writing {
-        refusal: told.refusal,
-        answer,
-    }
+    written(writing::write(satellite, ty, values, output))
 }
 
 // Edits one field of a frame that this satellite sent: the frame with that field alone replaced takes the old one's place. The last
@@ -97,11 +98,23 @@ pub fn tolimbar_edit(satellite: u32, frame: &mut [u8], field: u32, value: u32) -
     ensures frame_after { frame.new ≡ frame_after (known satellite) frame.old field value }
     ensures bytes { Bytes frame.old }
 {
-    let told = editing::edit(satellite, frame, field as usize, value);
-    let answer = told.answer as u32;
-    Writing {
-        refusal: told.refusal,
-        answer,
+    written(editing::edit(satellite, frame, field as usize, value))
+}
+
+// What writing and editing answer, as C is answered.
+fn written(told: Result<usize, Refusal>) -> Writing
+    requires { (written_in_numbers told).answer < 2 ^ 32 }
+    ensures { result ≡ writing_in_c (written_in_numbers told) }
+{
+    match told {
+        Ok(length) => Writing {
+            refusal: ACCEPTED,
+            answer: length as u32,
+        },
+        Err(refusal) => Writing {
+            refusal: refusal.number(),
+            answer: refusal.place() as u32,
+        },
     }
 }
 
@@ -111,9 +124,9 @@ pub fn tolimbar_temperature(code: u32, degrees: &mut [f32; 1]) -> Told
     ensures degrees_after { degrees.new ≡ placed (values_in (answering code)).degrees degrees.old }
 {
     match temperatures::reading_of(code) {
-        Answer::Is(reading) => tell(reading, degrees),
-        Answer::Refused => Told {
-            refusal: refusals::VALUE,
+        Ok(reading) => tell(reading, degrees),
+        Err(refusal) => Told {
+            refusal: refusal.number(),
             kind: NONE,
         },
     }
@@ -128,12 +141,12 @@ fn tell(reading: temperatures::Reading, degrees: &mut [f32; 1]) -> Told
         temperatures::Reading::Degrees(x) => {
             *degrees = [x];
             Told {
-                refusal: refusals::ACCEPTED,
+                refusal: ACCEPTED,
                 kind: DEGREES,
             }
         }
         temperatures::Reading::SensorError => Told {
-            refusal: refusals::ACCEPTED,
+            refusal: ACCEPTED,
             kind: SENSOR_ERROR,
         },
     }
@@ -147,13 +160,22 @@ pub fn tolimbar_summary(codes: &[u32], degrees: &mut [f32; 2], counts: &mut [u32
     ensures counts_after { counts.new ≡ count_in (day_of codes.now).summary }
     ensures codes_unchanged { codes.exit.now ≡ codes.entry.now }
 {
-    let day = temperatures::summary_of(codes);
-    let summary = day.summary;
-    *degrees = [summary.coldest, summary.warmest];
-    *counts = [summary.count];
-    let place = day.place as u32;
-    Day {
-        refusal: day.refusal,
-        place,
+    match temperatures::summary_of(codes) {
+        Ok(summary) => {
+            *degrees = [summary.coldest, summary.warmest];
+            *counts = [summary.count];
+            Day {
+                refusal: ACCEPTED,
+                place: 0,
+            }
+        }
+        Err(refusal) => {
+            *degrees = [0.0, 0.0];
+            *counts = [0];
+            Day {
+                refusal: refusal.number(),
+                place: refusal.place() as u32,
+            }
+        }
     }
 }

@@ -9,8 +9,9 @@ use native.Mathlib.Nat.{not-suc-le-zero, le_of_suc-le-suc}
 use borrow.Author.Tests.{leb-true}
 use lib.Dec.{leb, eqb}
 use lib.ListN.{length, get_or, get_or-eq_default}
-use Rattle.words.specs.declared.Bytes.{Bytes}
-use Rattle.words.specs.declared.Bytes.TheVariants.{Are, NotDigits, Odd, TooMany}
+use Rattle.std.proofs.Common.{Result, Ok, Err}
+use Rattle.words.specs.declared.PairsError.{PairsError}
+use Rattle.words.specs.declared.PairsError.TheVariants.{NotDigits, Odd, TooMany}
 use Rattle.words.specs.Words.{is_letter, led, parts, full, words_of, word_of}
 use Rattle.words.specs.Numbers.{are_digits, bytes_of, pairs_of, left_by}
 
@@ -62,11 +63,9 @@ unfolding words_of
 words-joined line = full-joined (parts is_letter line) ∙ parts-joined line
 
 -- how many bytes an answer tells; on a refusal none
-abbrev how_many : Bytes → ℕ
-how_many (Are n) = n
-how_many NotDigits = 0
-how_many Odd = 0
-how_many TooMany = 0
+abbrev how_many : Result ℕ PairsError → ℕ
+how_many (Ok n) = n
+how_many (Err why) = 0
 
 as-many-fit : (text out : List ℕ) → how_many (pairs_of text out) ≤ length out
 unfolding pairs_of
@@ -75,19 +74,17 @@ as-many-fit text out =
     go (are_digits 16 text) (eqb (length text % 2) 0) (leb n (length out)) (leb-true n (length out))
   where
     go : (digits even fits : Bool) → (fits ≡ true → length (bytes_of text) ≤ length out)
-        → how_many (cond digits (cond even (cond fits (Are (length (bytes_of text))) TooMany) Odd) NotDigits) ≤ length out
+        → how_many (cond digits (cond even (cond fits (Ok (length (bytes_of text))) (Err TooMany)) (Err Odd)) (Err NotDigits)) ≤ length out
     go true true true h = h refl
     go true true false h = zero-le
     go true false fits h = zero-le
     go false even fits h = zero-le
 
 -- `out` has place for the bytes that are answered
-pub bytes_fit : (text out : List ℕ) (r : Bytes) (n : ℕ) → r ≡ pairs_of text out → r ≡ Are n → n ≤ length out
+pub bytes_fit : (text out : List ℕ) (r : Result ℕ PairsError) (n : ℕ) → r ≡ pairs_of text out → r ≡ Ok n → n ≤ length out
 bytes_fit text out r n p e = rw (ap how_many (sym p ∙ e)) at (as-many-fit text out)
 
 -- where no bytes are answered, `out` stays
-pub out_stays : (text out : List ℕ) (r : Bytes) → ((n : ℕ) → r ≡ Are n → ⊥) → left_by r text out ≡ out
-out_stays text out (Are n) none = absurd (none n refl)
-out_stays text out NotDigits none = refl
-out_stays text out Odd none = refl
-out_stays text out TooMany none = refl
+pub out_stays : (text out : List ℕ) (r : Result ℕ PairsError) → ((n : ℕ) → r ≡ Ok n → ⊥) → left_by r text out ≡ out
+out_stays text out (Ok n) none = absurd (none n refl)
+out_stays text out (Err why) none = refl

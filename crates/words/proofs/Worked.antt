@@ -2,8 +2,8 @@
 use mathlib.Core.Path.{◌≡◌, refl}
 use mathlib.Core.List.{List, [], ◌∷◌, ◌++◌, map}
 use Prim.Native.Nat.{ℕ}
-use Rattle.words.specs.declared.Number.TheVariants.{Is, None}
-use Rattle.words.specs.declared.Bytes.TheVariants.{Are, NotDigits, Odd, TooMany}
+use Rattle.std.proofs.Common.{Some, None, Ok, Err}
+use Rattle.words.specs.declared.PairsError.TheVariants.{NotDigits, Odd, TooMany}
 use Rattle.words.specs.Words.{text, parts, full, words_of, word_of}
 use Rattle.words.specs.Numbers.{digit_of, are_digits, value_from, decimal_of, bytes_of, pairs_of, left_by}
 
@@ -27,14 +27,14 @@ digits_are = refl
 -- the greatest number, one more, leading zeros, and what is none
 pub decimals-are : map decimal_of
     (text "4294967295" ∷ text "4294967296" ∷ text "0" ∷ text "0000000000007" ∷ text "" ∷ text "1a" ∷ text "-1" ∷ text " 1" ∷ [])
-    ≡ Is 4294967295 ∷ None ∷ Is 0 ∷ Is 7 ∷ None ∷ None ∷ None ∷ None ∷ []
+    ≡ Some 4294967295 ∷ None ∷ Some 0 ∷ Some 7 ∷ None ∷ None ∷ None ∷ None ∷ []
 unfolding text digit_of are_digits value_from decimal_of
 decimals-are = refl
 
 -- for two bytes: pairs of either case, an empty text; too many, an odd letter, one that is no digit; and of two causes the first
 pub pairs-are : map (λ (t : List ℕ). pairs_of t (1 ∷ 2 ∷ []))
     (text "0aFF" ∷ text "aF" ∷ text "" ∷ text "010203" ∷ text "aAf" ∷ text "0g" ∷ text "0102030" ∷ text "01020g" ∷ text "0102g" ∷ [])
-    ≡ Are 2 ∷ Are 1 ∷ Are 0 ∷ TooMany ∷ Odd ∷ NotDigits ∷ Odd ∷ NotDigits ∷ NotDigits ∷ []
+    ≡ Ok 2 ∷ Ok 1 ∷ Ok 0 ∷ Err TooMany ∷ Err Odd ∷ Err NotDigits ∷ Err Odd ∷ Err NotDigits ∷ Err NotDigits ∷ []
 unfolding text digit_of are_digits bytes_of pairs_of
 pairs-are = refl
 

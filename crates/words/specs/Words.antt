@@ -1,8 +1,7 @@
 -- Texts, and the words of a line. A text is the list of its letters, each its character's code; a line is a text too.
-use Rattle.std.specs.Prelude.{ℕ, suc, Bool, cond, List, [], ◌∷◌, get_or, ltb}
+use Rattle.std.specs.Prelude.{ℕ, Bool, cond, List, [], ◌∷◌, get_or, ltb}
 use Prim.Native.Char.{code}
 use Prim.Native.String.{String, [] as []ˢ, ◌∷◌ as ◌∷ˢ◌}
-use Rattle.std.specs.Bool.{beq}
 
 -- a string as a text
 unfoldable pub text : String → List ℕ
@@ -37,8 +36,3 @@ words_of line = full (parts is_letter line)
 -- word number n, counted from 0; where there are not so many, an empty one
 abbrev pub word_of : ℕ → List ℕ → List ℕ
 word_of n line = get_or (words_of line) n []
-
--- how many letters the line begins with, or blanks
-unfoldable pub ahead : Bool → List ℕ → ℕ
-ahead letters [] = 0
-ahead letters (x ∷ xs) = cond (beq (is_letter x) letters) (suc (ahead letters xs)) 0

@@ -3,24 +3,16 @@
 // Every function answers for all input: nothing is asked of a caller.
 #![tactic(auto)]
 
-ghost use Rattle.std.specs.Prelude.{◌≡◌, ◌+◌, ◌≤◌, length, drop};
-ghost use Rattle.words.specs.Words.{ahead, words_of, word_of};
+ghost use Rattle.std.specs.Prelude.{◌≡◌, ◌≤◌, length};
+ghost use Rattle.words.specs.Words.{words_of, word_of};
 ghost use Rattle.words.specs.Numbers.{digit_of, are_digits, decimal_of, pairs_of, left_by};
 
 // Space, and what is below it: tab, carriage return ..
 const LAST_BLANK: u8 = 32;
 
-// A number of up to 32 bits, or none.
-#[derive(Clone, Copy)]
-pub enum Number {
-    Is(u32),
-    None,
-}
-
-// So many bytes, or why the text is none: another letter, a digit too few, more bytes than there is place for.
-#[derive(Clone, Copy)]
-pub enum Bytes {
-    Are(usize),
+// Why a text is no bytes: another letter, a digit too few, more bytes than there is place for.
+#[derive(Clone, Copy, Debug, PartialEq, Eq)]
+pub enum PairsError {
     NotDigits,
     Odd,
     TooMany,
@@ -32,111 +24,71 @@ pub fn word(line: &[u8], n: usize) -> &[u8]
     ensures result_value { result.now ≡ word_of n line.now }
     ensures line_unchanged { line.exit.now ≡ line.entry.now }
 {
-    let mut left = n;
-    let mut from = run_end(line, 0, false);
-    while from < line.len() {
-        let to = run_end(line, from, true);
-        if left == 0 {
-            return &line[from..to];
-        }
-        left -= 1;
-        from = run_end(line, to, false);
-    }
-    &line[0..0]
+    line.split(|letter| *letter <= LAST_BLANK)
+        .filter(|part| !part.is_empty())
+        .nth(n)
+        .unwrap_or(&[])
 }
 
-// How many words a line has.
+// How many words a line has. The chain stands in `word` too: a function cannot answer an iterator over closures.
 pub fn count(line: &[u8]) -> usize
     ensures value { result ≡ length (words_of line.now) }
     ensures line_unchanged { line.exit.now ≡ line.entry.now }
 {
-    let mut words = 0;
-    let mut at = run_end(line, 0, false);
-    while at < line.len() {
-        words += 1;
-        at = run_end(line, run_end(line, at, true), false);
-    }
-    words
-}
-
-// Where the letters from `at` on end, or the blanks.
-fn run_end(text: &[u8], at: usize, letters: bool) -> usize
-    requires { at ≤ length text.now }
-    ensures value { result ≡ at + ahead letters (drop at text.now) }
-    ensures upper_bound { result ≤ length text.now }
-{
-    let mut end = at;
-    while end < text.len() {
-        if (LAST_BLANK < text[end]) != letters {
-            return end;
-        }
-        end += 1;
-    }
-    end
+    line.split(|letter| *letter <= LAST_BLANK)
+        .filter(|part| !part.is_empty())
+        .count()
 }
 
 // Whether each letter is a digit of that base; an empty text has none that is not. A base above 16 takes every letter.
+#[tactic(auto, unfolding(crate::specs::Numbers::are_digits))]
 pub fn are_digits(text: &[u8], base: u8) -> bool
     ensures value { result ≡ are_digits base text.now }
     ensures text_unchanged { text.exit.now ≡ text.entry.now }
 {
-    let mut i = 0;
-    while i < text.len() {
-        if base <= digit(text[i]) {
-            return false;
-        }
-        i += 1;
-    }
-    true
+    text.iter().all(|letter| digit(*letter) < base)
 }
 
 // The number of up to 32 bits that decimal digits write, one or more; zeros may lead.
-pub fn decimal(text: &[u8]) -> Number
+pub fn decimal(text: &[u8]) -> Option<u32>
     ensures value { result ≡ decimal_of text.now }
     ensures text_unchanged { text.exit.now ≡ text.entry.now }
 {
-    if text.len() == 0 {
-        return Number::None;
+    if text.is_empty() || !are_digits(text, 10) {
+        return None;
     }
-    if !are_digits(text, 10) {
-        return Number::None;
+    let mut value: u32 = 0;
+    for &letter in text {
+        value = value
+            .checked_mul(10)?
+            .checked_add(u32::from(digit(letter)))?;
     }
-    let mut value: u64 = 0;
-    let mut i = 0;
-    while i < text.len() {
-        value = value * 10 + digit(text[i]) as u64;
-        if 0xFFFF_FFFF < value {
-            return Number::None;
-        }
-        i += 1;
-    }
-    let number = value as u32;
-    Number::Is(number)
+    Some(value)
 }
 
-// The bytes that pairs of hexadecimal digits write, of either case. They go to the start of `out`, and later bytes stay. Where the text
-// is something else, or `out` has no place for them, all of it stays.
-pub fn pairs(text: &[u8], out: &mut [u8]) -> Bytes
+// The bytes that pairs of hexadecimal digits write, of either case, and how many they are. They go to the start of `out`, and later
+// bytes stay. Where the text is something else, or `out` has no place for them, all of it stays.
+pub fn pairs(text: &[u8], out: &mut [u8]) -> Result<usize, PairsError>
     ensures value { result ≡ pairs_of text.now out.old }
     ensures text_unchanged { text.exit.now ≡ text.entry.now }
     ensures out_after { out.new ≡ left_by result text.now out.old }
 {
     if !are_digits(text, 16) {
-        return Bytes::NotDigits;
+        return Err(PairsError::NotDigits);
     }
-    if text.len() % 2 == 1 {
-        return Bytes::Odd;
+    let (pairs, rest) = text.as_chunks::<2>();
+    if !rest.is_empty() {
+        return Err(PairsError::Odd);
     }
-    let n = text.len() / 2;
+    let n = pairs.len();
     if out.len() < n {
-        return Bytes::TooMany;
+        return Err(PairsError::TooMany);
     }
-    let mut i = 0;
-    while i < n {
-        out[i] = digit(text[2 * i]) * 16 + digit(text[2 * i + 1]);
-        i += 1;
+    // By number: behind a loop over `out[..n].iter_mut().zip(pairs)` a proof knows none of the bytes put.
+    for (i, &[high, low]) in pairs.iter().enumerate() {
+        out[i] = digit(high) * 16 + digit(low);
     }
-    Bytes::Are(n)
+    Ok(n)
 }
 
 // A digit's value; 16 for what is no digit.

@@ -9,7 +9,7 @@ use mathlib.Core.List.{List, [], ◌++◌}
 use lib.ListN.{length, drop}
 use borrow.Author.Tests.{ne_eqb, lt-leb}
 use Rattle.satellites.specs.declared.Satellite.{Satellite}
-use Rattle.satellites.specs.declared.Known.TheVariants.{Is, Unknown}
+use Rattle.std.specs.Prelude.{Some, None}
 use Rattle.layouts.specs.Layouts.{carries, entry_of}
 use Rattle.bodies.specs.Bodies.{fitting}
 use Rattle.refusals.specs.Tests.{refusal}
@@ -20,7 +20,7 @@ use Rattle.refusals.proofs.Tests.{goes, stops}
 use Rattle.frames.proofs.Writings.{wrote_as, Refuses, refused-with, accepted-with, passed-10, passed-11, none-fails}
 
 pub unknown-refused : (r : Registers) (t : ℕ) (values output : List ℕ)
-    → (refused_writing 1 0 ≡ writing Unknown t values output) × (output ≡ output_after_by r Unknown t values output)
+    → (refused_writing 1 0 ≡ writing None t values output) × (output ≡ output_after_by r None t values output)
 unfolding writing output_after_by writing_tests refusal
 unknown-refused r t values output = (refl, refl)
 
@@ -32,7 +32,7 @@ module _ (r : Registers) (s : Satellite) (t : ℕ) (values output : List ℕ) wh
   count = length (entry_of s t).widths
 
   -- a number that is not 0 refuses
-  refuses : (k : ℕ) → refusal (writing_tests (Is s) t values output) ≡ k → (k ≡ 0 → ⊥) → Refuses r s t values output k
+  refuses : (k : ℕ) → refusal (writing_tests (Some s) t values output) ≡ k → (k ≡ 0 → ⊥) → Refuses r s t values output k
   refuses = refused-with r s t values output
 
   pub refuses-5 : carries s t ≡ false → Refuses r s t values output 5
@@ -60,7 +60,7 @@ module _ (r : Registers) (s : Satellite) (t : ℕ) (values output : List ℕ) wh
         -- an answer and an output that are made of the frame's length and the frame
         pub accepts : frame_length s t ≤ length output → {n m : ℕ} {front : List ℕ} → wrote_as n ≡ accepted_writing s t → m ≡ frame_length s t
             → front ≡ frame_of (r s) s t values
-            → (wrote_as n ≡ writing (Is s) t values output) × (front ++ drop m output ≡ output_after_by r (Is s) t values output)
+            → (wrote_as n ≡ writing (Some s) t values output) × (front ++ drop m output ≡ output_after_by r (Some s) t values output)
         accepts enough answers lent made =
             let told = accepted-with r s t values output (none-fails r s t values output carried as_many all enough) in (
               answers ∙ told.0,

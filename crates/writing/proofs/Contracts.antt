@@ -5,11 +5,12 @@
 use mathlib.Core.Path.{◌≡◌}
 use Rattle.satellites.specs.Satellites.{known}
 use Rattle.frames.specs.Registers.{register_of}
+use Rattle.frames.specs.Answers.{written_in_numbers}
 use Rattle.frames.specs.Writing.{writing, output_after_by}
 use Rattle.writing.proofs.write.Reads as write
 
 pub write-says : (κs a r s : _) → write.Post κs a r s
-    → (r ≡ writing (known a.0) a.1.0 a.1.1.0.now a.1.1.1.0.now)
+    → (written_in_numbers r ≡ writing (known a.0) a.1.0 a.1.1.0.now a.1.1.1.0.now)
     × ((s.1.1.1.0.now ≡ output_after_by register_of (known a.0) a.1.0 a.1.1.0.now a.1.1.1.0.now)
     × (s.1.1.0.now ≡ a.1.1.0.now))
 write-says κs a r s p = p

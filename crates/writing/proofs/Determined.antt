@@ -4,11 +4,12 @@
 -- And nothing is asked of a caller: `Pre`, what the contract requires, holds of all arguments.
 -- Assumes nothing.
 use mathlib.Core.Path.{◌≡◌, sym, ◌∙◌}
+use Rattle.frames.proofs.Told.{same_written}
 use Rattle.writing.proofs.write.Reads as write
 
 pub write-determined : (κs a r r' s s' : _) → write.Post κs a r s → write.Post κs a r' s'
     → (r ≡ r') × ((s.1.1.0.now ≡ s'.1.1.0.now) × (s.1.1.1.0.now ≡ s'.1.1.1.0.now))
-write-determined κs a r r' s s' p q = (p.0 ∙ sym q.0, (p.1.1 ∙ sym q.1.1, p.1.0 ∙ sym q.1.0))
+write-determined κs a r r' s s' p q = (same_written r r' (p.0 ∙ sym q.0), (p.1.1 ∙ sym q.1.1, p.1.0 ∙ sym q.1.0))
 
 pub write-asks-nothing : (κs a : _) → write.Pre κs a
 write-asks-nothing κs a = tt

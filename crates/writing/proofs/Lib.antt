@@ -1,4 +1,3 @@
-mod Laid
 mod Assembled
 mod Answers
 pub mod Contracts

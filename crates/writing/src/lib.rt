@@ -8,20 +8,19 @@ mod writer;
 
 ghost use Rattle.std.specs.Prelude.{◌≡◌};
 ghost use Rattle.satellites.specs.Satellites.{known};
+ghost use Rattle.frames.specs.Answers.{written_in_numbers};
 ghost use Rattle.frames.specs.Writing.{writing, output_after};
 
-use frames::Writing;
-use satellites::{Known, Satellite};
+use refusals::Refusal;
+use satellites::Satellite;
 
-// Writes the frame of this satellite's type that carries these values. It fills the output's first bytes; later bytes stay,
-// and so do the values.
-pub fn write(satellite: u32, ty: u32, values: &[u32], output: &mut [u8]) -> Writing
-    ensures value { result ≡ writing (known satellite) ty values.now output.old }
+// Writes the frame of this satellite's type that carries these values, and answers its length. It fills the output's first bytes; later
+// bytes stay, and so do the values.
+pub fn write(satellite: u32, ty: u32, values: &[u32], output: &mut [u8]) -> Result<usize, Refusal>
+    ensures value { written_in_numbers result ≡ writing (known satellite) ty values.now output.old }
     ensures output_after { output.new ≡ output_after (known satellite) ty values.now output.old }
     ensures values_unchanged { values.exit.now ≡ values.entry.now }
 {
-    match Satellite::from_number(satellite) {
-        Known::Is(named) => writer::write(named, ty, values, output),
-        Known::Unknown => Writing::refused(refusals::SATELLITE, 0),
-    }
+    let satellite = Satellite::from_number(satellite).ok_or(Refusal::Satellite)?;
+    writer::write(satellite, ty, values, output)
 }

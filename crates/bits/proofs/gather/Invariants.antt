@@ -1,10 +1,7 @@
 -- The sum is the number that the bytes passed stand for.
-use Rattle.std.proofs.Common.{◌≡◌, ◌≤◌, ◌-◌, length, take}
+use Rattle.std.proofs.Common.{◌≡◌, take}
 use Rattle.bits.specs.Bits.{number, bits_of}
 use Rattle.bits.proofs.gather.Given as goal
 
-abbrev pub invariant-loop-i : goal.invariant-loop-i
-invariant-loop-i l = (l.i ≤ length l.group) × (l.sum ≡ number (bits_of (take l.i l.group)))
-
-abbrev pub decreases-loop-i : goal.decreases-loop-i
-decreases-loop-i l = length l.group - l.i
+abbrev pub invariant-loop-byte : goal.invariant-loop-byte
+invariant-loop-byte l = l.sum ≡ number (bits_of (take l.byte-index l.group))

@@ -10,6 +10,7 @@ use Rattle.bits.proofs.Numbers.{number_lt, bits-of}
 use Rattle.bits.proofs.Bytes.{length-bits_of}
 use Rattle.bits.proofs.Groups.{length-changed, number-changed}
 use Rattle.bits.proofs.put.Goals as goal
+use Rattle.bits.proofs.put.Goals.{After-gather-old}
 
 -- The sum that is spread, from the number N that was gathered and the powers S and U. Its parts are asked to fit, one after
 -- the other.
@@ -55,26 +56,21 @@ module _ (xs : List ℕ) (w k v : ℕ) (asked : Holds xs w k) where
         spread = rw is new-spread;
       }
 
-pub overflow_add-ahead : goal.overflow_add-ahead
-overflow_add-ahead c =
+-- the sum of what the code has gathered
+code_sum : (c : After-gather-old) → let a = c.args in
+    Sum a.group.now a.width a.rest a.value c.gather-old.result c.power-span.result c.power-under.result
+code_sum c =
     let a = c.args in
-    let s = sum a.group.now a.width a.rest a.value c.requires c.gather-old.ensures c.power-span.ensures.0 c.power-under.ensures.0 in
-    record { fits = s.second }
+    sum a.group.now a.width a.rest a.value c.requires c.gather-old.ensures c.power-span.ensures.0 c.power-under.ensures.0
+
+pub overflow_add-ahead : goal.overflow_add-ahead
+overflow_add-ahead c = record { fits = (code_sum (goal.at.overflow_add-ahead c).After-gather-old).second }
 
 pub overflow_mul-ahead-2 : goal.overflow_mul-ahead-2
-overflow_mul-ahead-2 c =
-    let a = c.args in
-    let s = sum a.group.now a.width a.rest a.value c.requires c.gather-old.ensures c.power-span.ensures.0 c.power-under.ensures.0 in
-    record { fits = s.third }
+overflow_mul-ahead-2 c = record { fits = (code_sum (goal.at.overflow_mul-ahead-2 c).After-gather-old).third }
 
 pub overflow_add-ahead-2 : goal.overflow_add-ahead-2
-overflow_add-ahead-2 c =
-    let a = c.args in
-    let s = sum a.group.now a.width a.rest a.value c.requires c.gather-old.ensures c.power-span.ensures.0 c.power-under.ensures.0 in
-    record { fits = s.whole }
+overflow_add-ahead-2 c = record { fits = (code_sum (goal.at.overflow_add-ahead-2 c).After-gather-old).whole }
 
 pub returns : goal.returns
-returns c =
-    let a = c.args in
-    let s = sum a.group.now a.width a.rest a.value c.requires c.gather-old.ensures c.power-span.ensures.0 c.power-under.ensures.0 in
-    c.spread.ensures ∙ s.spread
+returns c = c.spread.ensures ∙ (code_sum (goal.at.returns c).After-gather-old).spread

@@ -1,18 +1,17 @@
 -- `bits::read_field` meets its contract: the field is that of the bytes it touches.
 -- Assumes nothing.
-use Rattle.std.proofs.Common.{sym, ◌∙◌}
-use Rattle.bits.proofs.Places.{is-inside, field-touched}
+use Rattle.std.proofs.Common.{◌∙◌, arith}
+use Rattle.bits.proofs.Fields.{is_field_lem, no_field}
+use Rattle.bits.proofs.Places.{field-touched}
 use Rattle.bits.proofs.read_field.Goals as goal
 
-pub returns-then-inside-clause-value : goal.returns-then-inside-clause-value
-returns-then-inside-clause-value c =
+pub returns-in-Some-clause-value : goal.returns-in-Some-clause-value
+returns-in-Some-clause-value c =
     let a = c.args in
-    let l = c.locate-p in
-    let inside = sym (is-inside a.at a.width a.bytes.now l.result l.ensures) ∙ c.if-inside.true in
-    c.cut.ensures ∙ field-touched a.at a.width a.bytes.now l.result (l.ensures.lies c.if-inside.true) ∙ rw inside
+    let t = c.in-Some.ensures in
+    c.cut.ensures ∙ field-touched a.at a.width a.bytes.now c.in-Some.place t ∙ rw (is_field_lem a.at a.width a.bytes.now t.narrow (omega arith))
 
-pub returns-else-inside-clause-value : goal.returns-else-inside-clause-value
-returns-else-inside-clause-value c =
+pub returns-in_default-clause-value : goal.returns-in_default-clause-value
+returns-in_default-clause-value c =
     let a = c.args in
-    let l = c.locate-p in
-    rw (sym (is-inside a.at a.width a.bytes.now l.result l.ensures) ∙ c.if-inside.false)
+    rw (no_field a.at a.width a.bytes.now (λ narrow inside. omega (arith, c.in_default.ensures narrow)))

@@ -1,20 +1,19 @@
 -- `bits::replace_field` meets its contract: the field is replaced in the bytes it touches, and the others stay.
 -- Assumes nothing.
-use Rattle.std.proofs.Common.{sym, ◌∙◌, rules, get_or, Fits, w8}
-use Rattle.bits.proofs.Places.{is-inside, replaced-touched}
+use Rattle.std.proofs.Common.{◌∙◌, rules, get_or, Fits, w8, arith}
+use Rattle.bits.proofs.Fields.{is_field_lem, no_field}
+use Rattle.bits.proofs.Places.{replaced-touched}
 use Rattle.bits.proofs.replace_field.Goals as goal
 
-pub returns-then-inside : goal.returns-then-inside
-returns-then-inside c =
+pub returns-in-Some : goal.returns-in-Some
+returns-in-Some c =
     let a = c.args in
-    let l = c.locate-p in
-    let inside = sym (is-inside a.at a.width a.bytes.now l.result l.ensures) ∙ c.if-inside.true in
-    replaced-touched a.at a.width a.bytes.now l.result (l.ensures.lies c.if-inside.true)
+    let t = c.in-Some.ensures in
+    replaced-touched a.at a.width a.bytes.now c.in-Some.place t
     (λ i. let f : Fits w8 (get_or a.bytes.now i 0) = search rules in f.fits) a.value c.put.new.group c.put.ensures
-    ∙ rw inside
+    ∙ rw (is_field_lem a.at a.width a.bytes.now t.narrow (omega arith))
 
-pub returns-else-inside : goal.returns-else-inside
-returns-else-inside c =
+pub returns-in_default : goal.returns-in_default
+returns-in_default c =
     let a = c.args in
-    let l = c.locate-p in
-    rw (sym (is-inside a.at a.width a.bytes.now l.result l.ensures) ∙ c.if-inside.false)
+    rw (no_field a.at a.width a.bytes.now (λ narrow inside. omega (arith, c.in_default.ensures narrow)))

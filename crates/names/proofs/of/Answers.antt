@@ -3,4 +3,4 @@ use Rattle.names.proofs.Rows.{named-in-row}
 use Rattle.names.proofs.of.Goals as goal
 
 pub returns : goal.returns
-returns c = simp (c.row-names.ensures, named-in-row) at c.in_row.ensures.value
+returns c = simp (c.row.ensures, named-in-row) at c.in_row.ensures.value

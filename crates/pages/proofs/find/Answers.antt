@@ -1,17 +1,14 @@
--- At the letter, ahead of it, and behind the last. Assumes nothing.
-use Rattle.std.proofs.Common.{arith}
-use Rattle.pages.proofs.Places.{index-here, index-past, index-over}
+-- What the library finds, or the text's end, is the place. Assumes nothing.
+use Rattle.std.proofs.Common.{rules, tests, eqb, ◌∙◌}
+use Rattle.std.proofs.lemmas.Iterator.{YieldsList-from_slice}
+use Rattle.std.proofs.lemmas.Iterator.Search.{position_from_yields_List}
+use Rattle.pages.proofs.Places.{answer_is}
 use Rattle.pages.proofs.find.Goals as goal
-
-pub returns-then-text-i-clause-value : goal.returns-then-text-i-clause-value
-returns-then-text-i-clause-value c =
-    omega (arith, c.loop-i.invariant, index-here c.args.text.now c.args.letter c.loop-i.i (omega arith) c.if-text-i.true)
-
-pub loop-i-preserved : goal.loop-i-preserved
-loop-i-preserved c =
-    omega (arith, c.loop-i.invariant, index-past c.args.text.now c.args.letter c.loop-i.i (omega arith) c.if-text-i.false)
 
 pub returns-clause-value : goal.returns-clause-value
 returns-clause-value c =
-    let i = c.loop-i.i in
-    omega (arith, c.loop-i.invariant, index-over c.args.text.now c.args.letter i (omega arith))
+    c.unwrap_or.ensures
+    ∙ answer_is c.args.letter c.args.text.now c.position.result
+    (position_from_yields_List (λ y. eqb y c.args.letter) _ _ c.position.result c.position.ensures.ran
+    (YieldsList-from_slice c.args.text.now c.iter.ensures.rest)
+    (λ x b q k. search (rules, tests)))

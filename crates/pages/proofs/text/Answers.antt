@@ -1,26 +1,13 @@
--- The page is what the contract says where no place is left, and where no letter is; and a letter put leaves the page settled. Assumes nothing.
-use Rattle.std.proofs.Common.{drop, sym, ◌∙◌, rules}
-use Rattle.pages.proofs.Laws.{put_full, text-next, text-over}
+-- The page is what the contract says where no place is left, and where the letters that fit are put at once. Assumes nothing.
+use Rattle.std.proofs.Common.{arith, sym, ◌≡◌, ◌+◌, ◌-◌}
+use Rattle.pages.proofs.Laws.{put_full, put-fit}
 use Rattle.pages.proofs.text.Goals as goal
 
-pub returns-then-page-to-clause-page_after : goal.returns-then-page-to-clause-page_after
-returns-then-page-to-clause-page_after c =
-    let l = c.loop-i in
-    sym (put_full l.page l.to (drop l.i c.args.text.now) c.if-page-to.true) ∙ l.invariant.settled
-
-pub loop-i-preserved : goal.loop-i-preserved
-loop-i-preserved c =
-    let l = c.loop-i in
-    let next = text-next l.page c.args.text.now l.to l.i c.if-page-to.false c.loop-i-test.true in
-    record {
-      place = search rules;
-      within_text = search rules;
-      within_page = search rules;
-      same_length = search rules;
-      settled = next ∙ l.invariant.settled;
-    }
+pub returns-then-page-at-clause-page_after : goal.returns-then-page-at-clause-page_after
+returns-then-page-at-clause-page_after c = sym (put_full c.args.page.now c.args.at c.args.text.now (omega arith))
 
 pub returns-clause-page_after : goal.returns-clause-page_after
 returns-clause-page_after c =
-    let l = c.loop-i in
-    sym (text-over l.page c.args.text.now l.to l.i c.loop-i-test.false) ∙ l.invariant.settled
+    let a = c.args in
+    let size : a.at + c.min-fit.result - a.at ≡ c.min-fit.result = omega arith in
+    rw (size, c.copy_from_slice.ensures.after) (put-fit a.page.now a.text.now a.at c.min-fit.result (omega arith))

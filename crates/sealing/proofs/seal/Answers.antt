@@ -1,6 +1,6 @@
 -- `sealing::seal` meets its contract.
 -- Assumes nothing.
-use Rattle.std.proofs.Common.{sym, ◌∙◌, ◌≤◌, length, Fits, w16, arith, rules}
+use Rattle.std.proofs.Common.{sym, ◌∙◌, ◌≤◌, length, arith}
 use Rattle.scrambler.specs.Scrambler.{from}
 use Rattle.sealing.proofs.Laws.{seals}
 use Rattle.sealing.proofs.Sealing.{sealed-is}
@@ -11,8 +11,8 @@ returns c =
     let a = c.args in
     let r = from a.near a.far a.start in
     let part = a.part.now in
-    let enough : 3 ≤ length part = omega arith in
-    let sum = c.of-sum in
-    let small : Fits w16 sum.result = search rules in
-    sealed-is r part c.scramble.new.part sum.result enough small.fits sum.ensures.value c.scramble.ensures.bytes
+    let enough : 3 ≤ length part = omega (arith, c.if-part-lt-LEAST_BYTES.false) in
+    let sum = c.of in
+    sealed-is r part c.split_at_mut-front.result.0.now c.scramble.new.part c.copy_from_slice.new.self sum.result enough c.split_at_mut-front.ensures.front
+    sum.ensures.value (c.copy_from_slice.ensures.after ∙ c.to_be_bytes.ensures) c.scramble.ensures.bytes
     ∙ sym (seals r part enough)

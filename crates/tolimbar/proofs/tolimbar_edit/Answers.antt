@@ -4,7 +4,7 @@ use Rattle.std.proofs.Common.{arith}
 use Rattle.frames.proofs.Small.{edited-small}
 use Rattle.tolimbar.proofs.tolimbar_edit.Goals as goal
 
-pub overflow_cast-answer : goal.overflow_cast-answer
-overflow_cast-answer c =
+pub written-requires : goal.written-requires
+written-requires c =
     let field = c.ranges.field.fits in
-    omega (arith, edited-small _ _ _ _ _ 4294967295 (omega arith) (omega (arith, field)) c.edit-told.ensures.value)
+    omega (arith, edited-small _ _ _ _ _ 4294967295 (omega arith) (omega (arith, field)) c.edit.ensures.value)

@@ -4,5 +4,5 @@ use Rattle.std.proofs.Common.{arith}
 use Rattle.frames.proofs.Small.{written_small}
 use Rattle.tolimbar.proofs.tolimbar_write.Goals as goal
 
-pub overflow_cast-answer : goal.overflow_cast-answer
-overflow_cast-answer c = omega (arith, written_small _ _ _ _ c.write-told.ensures.value)
+pub written-requires : goal.written-requires
+written-requires c = omega (arith, written_small _ _ _ _ c.write.ensures.value)

@@ -1,14 +1,10 @@
 -- The digits that are left, behind the value so far, write the same number. Assumes nothing.
-use Rattle.std.proofs.Common.{◌≡◌, ◌-◌, ◌≤◌, length, drop}
+use Rattle.std.proofs.Common.{◌≡◌, ◌≤◌, drop}
 use Rattle.words.specs.Numbers.{value_from}
 use Rattle.words.proofs.decimal.Given as goal
 
-abbrev pub invariant-loop-i : goal.invariant-loop-i
-invariant-loop-i l = record {
-  within : l.i ≤ length l.text;
+abbrev pub invariant-loop-letter : goal.invariant-loop-letter
+invariant-loop-letter l = record {
   small : l.value ≤ 0xFFFFFFFF;
-  same_number : value_from l.value (drop l.i l.text) ≡ value_from 0 l.text;
+  same_number : value_from l.value (drop l.letter-index l.text) ≡ value_from 0 l.text;
 }
-
-abbrev pub decreases-loop-i : goal.decreases-loop-i
-decreases-loop-i l = length l.text - l.i

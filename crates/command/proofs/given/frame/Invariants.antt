@@ -1,9 +1,8 @@
 -- The bytes so far have their places.
-use Rattle.std.proofs.Common.{length, ◌≤◌, ◌≡◌}
+use Rattle.std.proofs.Common.{length, ◌≤◌}
 use Rattle.command.proofs.given.frame.Given as goal
 
 abbrev pub invariant-loop-k : goal.invariant-loop-k
 invariant-loop-k l = record {
-  within : l.n ≤ length l.initial.out;
-  same_length : length l.out ≡ length l.initial.out;
+  within : l.n ≤ length l.out;
 }

@@ -1,35 +1,21 @@
--- The pair at hand is the next group; the last pair leaves nothing over.
-use Rattle.std.proofs.Common.{◌≡◌, ◌+◌, ◌++◌, length, get_or, sym, ap, ◌∙◌, append_assoc, arith, rules}
-use Rattle.layouts.specs.Layouts.{◌of◌}
-use Rattle.layouts.specs.Rows.{most_numbers, widths_of}
-use Rattle.layouts.proofs.Unrolled.{widths-more, pair_fits, pair-at, all-unrolled}
+-- Each pair is one group more.
+use Rattle.std.proofs.Common.{◌≡◌, ◌+◌, ◌-◌, [], length, get_or, take, drop, arith, rules, length-take, length-drop}
+use Rattle.layouts.proofs.Unrolled.{fields_within, count-more, laid-more}
 use Rattle.layouts.proofs.widths.unroll.Goals as goal
 
-pub and-all-requires : goal.and-all-requires
-and-all-requires c =
-    let row = c.args.row in
-    let inv = c.loop-k.invariant in
-    let all : length row ≡ most_numbers = search rules in
-    pair_fits c.loop-k.all inv.2 row c.loop-k.k (omega arith) inv.3 inv.4 c.requires
-
-pub loop-k-preserved : goal.loop-k-preserved
-loop-k-preserved c =
-    let row = c.args.row in
-    let k = c.loop-k.k in
-    let inv = c.loop-k.invariant in
-    let all : length row ≡ most_numbers = search rules in
-    let n = get_or row k 0 in
-    let w = get_or row (k + 1) 0 in (
-      omega arith,
-      omega arith,
-      inv.2 ++ n of w,
-      widths-more c.and-all.result c.loop-k.all inv.2 n w inv.3 c.and-all.ensures,
-      append_assoc inv.2 (n of w) _ ∙ ap (λ l. inv.2 ++ l) (sym (pair-at row k (omega arith))) ∙ inv.4,
-    )
-
-pub returns : goal.returns
-returns c =
-    let row = c.args.row in
-    let inv = c.loop-k.invariant in
-    let all : length row ≡ most_numbers = search rules in
-    inv.3 ∙ ap widths_of (all-unrolled inv.2 row c.loop-k.k (omega arith) inv.4)
+pub loop-count-preserved : goal.loop-count-preserved
+loop-count-preserved c =
+    let pairs = c.args.pairs.now in
+    let k = c.loop-count.count-index in
+    let at = c.loop-count.fields in
+    let widths = c.loop-count.widths in
+    let inside = c.loop-count-test.true in
+    let inv = c.loop-count.invariant in
+    let count = get_or (get_or pairs k []) 0 0 in
+    let step : at + count - at ≡ count = omega arith in
+    let long : length (take (at + count - at) (drop at widths)) ≡ count =
+    rw (length-take, length-drop) (omega (arith, fields_within pairs k inside)) in
+    record {
+      so_many = omega (arith, count-more pairs k inside);
+      so_far = laid-more pairs k inside widths c.fill.new.self at _ _ inv.so_many inv.so_far step long (c.fill.ensures.after (λ y same. search rules));
+    }

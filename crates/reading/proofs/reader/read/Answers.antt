@@ -1,80 +1,62 @@
 -- `reading::reader::read` meets its contract: the first test that fails refuses, and where none does the room is filled.
 -- Assumes nothing.
-use Rattle.std.proofs.Common.{◌≡◌, sym, ◌∙◌, ap, ap₂, ℕ, ◌-◌, ◌≤◌, ◌<◌, Bool, List, length, take, drop, arith}
+use Rattle.std.proofs.Common.{◌≡◌, sym, ◌∙◌, ap, ap₂, Err, ℕ, ◌-◌, ◌≤◌, ◌<◌, Bool, List, length, take, drop, arith}
 use Rattle.satellites.specs.declared.Satellite.{Satellite}
 use Rattle.satellites.specs.Satellites.{type_byte_at}
 use Rattle.layouts.specs.declared.Layout.{Layout}
-use Rattle.layouts.specs.Layouts.{entry_of, layout_of}
+use Rattle.layouts.specs.Layouts.{laid_out}
 use Rattle.refusals.specs.Tests.{refusal}
+use Rattle.refusals.proofs.Answered.{handed-on}
 use Rattle.frames.specs.Registers.{register_of}
-use Rattle.frames.specs.Frames.{from_type_byte, clear_body, type_of}
+use Rattle.frames.specs.Answers.{read_in_numbers}
+use Rattle.frames.specs.Frames.{from_type_byte, clear_body, entry_in}
 use Rattle.frames.specs.Reading.{checksum_right, whole_tests}
 use Rattle.frames.proofs.Registers.{handed}
 use Rattle.frames.proofs.Readings.{read_as}
 use Rattle.fronts.specs.declared.Front.{Front}
-use Rattle.fronts.specs.Fronts.{front_of}
+use Rattle.fronts.proofs.Told.{whole-told}
 use Rattle.fronts.proofs.Lent.{lies-inside, lent-part, lent-least, lent-most}
 use Rattle.scrambler.specs.Scrambler.{from, NEAR, FAR, START}
 use Rattle.reading.specs.Told.{told_to}
-use Rattle.reading.proofs.Answers.{whole-refuses, refuses-8, refuses-9, accepts}
+use Rattle.reading.proofs.Answers.{was-right, was-wrong, whole-refuses, refuses-8, refuses-9, accepts}
 use Rattle.reading.proofs.reader.read.Goals as goal
 
--- what is told of the front
-module _ (s : Satellite) (frame : List ℕ) (front : Front) (e : front ≡ front_of (whole_tests s frame) s frame) where
-  number : refusal (whole_tests s frame) ≡ front.refusal
-  number = sym (ap (λ (f : Front). f.refusal) e)
-
-  counts : front.layout.fields ≡ length (entry_of s (type_of s frame)).widths
-  counts = ap (λ (f : Front). f.layout.fields) e
-
-  typed : front.ty ≡ type_of s frame
-  typed = ap (λ (f : Front). f.ty) e
-
-  its_layout : front.layout ≡ layout_of s (type_of s frame)
-  its_layout = ap (λ (f : Front). f.layout) e
-
-  -- no test of the whole frame fails
-  passes : front.refusal ≡ 0 → refusal (whole_tests s frame) ≡ 0
-  passes zero = number ∙ zero
-
-pub returns-then-number-ne-ACCEPTED : goal.returns-then-number-ne-ACCEPTED
-returns-then-number-ne-ACCEPTED c =
+pub returns-in_err-front : goal.returns-in_err-front
+returns-in_err-front c =
     let a = c.args in
-    let front = c.whole-front in
-    let told = whole-refuses register_of a.satellite a.frame.now a.room.now front.result.refusal
-    (number a.satellite a.frame.now front.result front.ensures.value) c.if-number-ne-ACCEPTED.true in
-    record { value = c.refused.ensures ∙ told.0; room_after = told.1 }
+    let found = c.in_err-front.field-0.0 in
+    let told = whole-refuses register_of a.satellite a.frame.now a.room.now found c.in_err-front.ensures.value in
+    record { value = ap read_in_numbers (handed-on c.from_residual.result found c.from_residual.ensures.1) ∙ told.0; room_after = told.1 }
 
-pub returns-then-room-layout : goal.returns-then-room-layout
-returns-then-room-layout c =
+pub returns-then-room-front : goal.returns-then-room-front
+returns-then-room-front c =
     let a = c.args in
-    let front = c.whole-front in
-    let whole = passes a.satellite a.frame.now front.result front.ensures.value c.if-number-ne-ACCEPTED.false in
-    let small : length a.room.now < length (entry_of a.satellite (type_of a.satellite a.frame.now)).widths =
-    omega (arith, counts a.satellite a.frame.now front.result front.ensures.value) in
-    let told = refuses-8 register_of a.satellite a.frame.now a.room.now whole small in
-    record { value = c.refused-then-room-layout.ensures ∙ told.0; room_after = told.1 }
+    let front = whole-told a.satellite a.frame.now c.in_ok-front.front c.in_ok-front.ensures.value in
+    let small : length a.room.now < length (entry_in a.satellite a.frame.now).widths =
+    omega (arith, c.if-room-front.true, ap (λ (f : Front). f.layout.fields) front.1) in
+    let told = refuses-8 register_of a.satellite a.frame.now a.room.now front.0 small in
+    record { value = told.0; room_after = told.1 }
 
-pub slice_bounds-tell-count : goal.slice_bounds-tell-count
-slice_bounds-tell-count c =
+pub slice_bounds-sent-count : goal.slice_bounds-sent-count
+slice_bounds-sent-count c =
     let a = c.args in
-    let whole = passes a.satellite a.frame.now c.whole-front.result c.whole-front.ensures.value c.if-number-ne-ACCEPTED.false in
-    lies-inside a.satellite a.frame.now whole c.type_byte_at-at.result c.type_byte_at-at.ensures
+    let front = whole-told a.satellite a.frame.now c.in_ok-front.front c.in_ok-front.ensures.value in
+    lies-inside a.satellite a.frame.now front.0 c.type_byte_at.result c.type_byte_at.ensures
 
-pub slice_bounds-tell-start : goal.slice_bounds-tell-start
-slice_bounds-tell-start c = slice_bounds-tell-count c
+pub slice_bounds-sent-start : goal.slice_bounds-sent-start
+slice_bounds-sent-start c = slice_bounds-sent-count c
 
 pub tell-requires : goal.tell-requires
 tell-requires c =
     let a = c.args in
-    let n = c.type_byte_at-at.result in
-    let whole = passes a.satellite a.frame.now c.whole-front.result c.whole-front.ensures.value c.if-number-ne-ACCEPTED.false in
+    let n = c.type_byte_at in
+    let front = whole-told a.satellite a.frame.now c.in_ok-front.front c.in_ok-front.ensures.value in
     record {
-      in_bounds = lent-least a.satellite a.frame.now whole n c.type_byte_at-at.ensures;
-      sent_len_bound = lent-most a.satellite a.frame.now whole n c.type_byte_at-at.ensures;
+      in_bounds = lent-least a.satellite a.frame.now front.0 n.result n.ensures;
+      sent_len_bound = lent-most a.satellite a.frame.now front.0 n.result n.ensures;
     }
 
--- test 9, on what is lent of a whole frame from its type byte on
+-- what is told of the part that is lent of a whole frame, in the words of the satellite
 module _ (s : Satellite) (frame : List ℕ) (whole : refusal (whole_tests s frame) ≡ 0) (n : ℕ) (place : n ≡ type_byte_at s) where
   abbrev lent : List ℕ
   lent = take (length frame - n) (drop n frame)
@@ -82,62 +64,49 @@ module _ (s : Satellite) (frame : List ℕ) (whole : refusal (whole_tests s fram
   abbrev part : List ℕ
   part = from_type_byte s frame
 
-  checked : (result : Bool) → result ≡ checksum_right (from NEAR FAR START) lent → checksum_right (register_of s) part ≡ result
-  checked result e = sym (e ∙ ap₂ checksum_right (handed s) (lent-part s frame whole n place))
+  checked-as : checksum_right (register_of s) part ≡ checksum_right (from NEAR FAR START) lent
+  checked-as = sym (ap₂ checksum_right (handed s) (lent-part s frame whole n place))
 
-  -- the room behind it
-  left : (room after : List ℕ) (layout : Layout) (result right : Bool)
-      → layout ≡ layout_of s (type_of s frame)
-      → after ≡ told_to result layout (clear_body (from NEAR FAR START) lent) room
-      → result ≡ right
-      → after ≡ told_to right (layout_of s (type_of s frame)) (clear_body (register_of s) part) room
-  left room after layout result right its e same =
-      e
-      ∙ ap₂ (λ (l : Layout) (body : List ℕ). told_to result l body room) its
+  left-as : (room : List ℕ) (layout : Layout) → layout ≡ laid_out s (entry_in s frame)
+      → told_to (checksum_right (from NEAR FAR START) lent) layout (clear_body (from NEAR FAR START) lent) room
+      ≡ told_to (checksum_right (register_of s) part) (laid_out s (entry_in s frame)) (clear_body (register_of s) part) room
+  left-as room layout its =
+      ap₂ (λ (b : Bool) (l : Layout). told_to b l (clear_body (from NEAR FAR START) lent) room) (sym checked-as) its
+      ∙ ap (λ (body : List ℕ). told_to (checksum_right (register_of s) part) (laid_out s (entry_in s frame)) body room)
       (ap₂ clear_body (handed s) (lent-part s frame whole n place))
-      ∙ ap (λ (b : Bool). told_to b (layout_of s (type_of s frame)) (clear_body (register_of s) part) room) same
 
-pub returns-then-tell : goal.returns-then-tell
-returns-then-tell c =
+pub returns-in_err-tell : goal.returns-in_err-tell
+returns-in_err-tell c =
     let a = c.args in
-    let front = c.whole-front in
-    let whole = passes a.satellite a.frame.now front.result front.ensures.value c.if-number-ne-ACCEPTED.false in
-    let n = c.type_byte_at-at.result in
-    let place = c.type_byte_at-at.ensures in
-    let tell = c.tell in
-    let at = its_layout a.satellite a.frame.now front.result front.ensures.value in
-    let enough : length (entry_of a.satellite (type_of a.satellite a.frame.now)).widths ≤ length a.room.now =
-    omega (arith, counts a.satellite a.frame.now front.result front.ensures.value) in
-    let right = checked a.satellite a.frame.now whole n place tell.result tell.ensures.value ∙ c.if-tell.true in
-    let told = accepts register_of a.satellite a.frame.now a.room.now whole enough right in
+    let n = c.type_byte_at in
+    let found = c.in_err-tell.field-0.0 in
+    let front = whole-told a.satellite a.frame.now c.in_ok-front.front c.in_ok-front.ensures.value in
+    let enough : length (entry_in a.satellite a.frame.now).widths ≤ length a.room.now =
+    omega (arith, c.if-room-front.false, ap (λ (f : Front). f.layout.fields) front.1) in
+    let its = was-wrong _ found c.in_err-tell.ensures.value in
+    let wrong = checked-as a.satellite a.frame.now front.0 n.result n.ensures ∙ its.0 in
+    let told = refuses-9 register_of a.satellite a.frame.now a.room.now front.0 enough wrong in
     record {
-      value =
-          ap₂ read_as (typed a.satellite a.frame.now front.result front.ensures.value)
-          (counts a.satellite a.frame.now front.result front.ensures.value)
-          ∙ told.0;
+      value = ap read_in_numbers (handed-on c.from_residual-in_err-tell.result found c.from_residual-in_err-tell.ensures.1 ∙ ap Err its.1) ∙ told.0;
       room_after =
-          left a.satellite a.frame.now whole n place a.room.now tell.new.room front.result.layout tell.result _ at
-          tell.ensures.room_after c.if-tell.true
-          ∙ told.1;
+          c.tell.ensures.room_after
+          ∙ left-as a.satellite a.frame.now front.0 n.result n.ensures a.room.now c.in_ok-front.front.layout (ap (λ (f : Front). f.layout) front.1)
+          ∙ rw wrong told.1;
     }
 
 pub returns : goal.returns
 returns c =
     let a = c.args in
-    let front = c.whole-front in
-    let whole = passes a.satellite a.frame.now front.result front.ensures.value c.if-number-ne-ACCEPTED.false in
-    let n = c.type_byte_at-at.result in
-    let place = c.type_byte_at-at.ensures in
-    let tell = c.tell in
-    let at = its_layout a.satellite a.frame.now front.result front.ensures.value in
-    let enough : length (entry_of a.satellite (type_of a.satellite a.frame.now)).widths ≤ length a.room.now =
-    omega (arith, counts a.satellite a.frame.now front.result front.ensures.value) in
-    let wrong = checked a.satellite a.frame.now whole n place tell.result tell.ensures.value ∙ c.if-tell.false in
-    let told = refuses-9 register_of a.satellite a.frame.now a.room.now whole enough wrong in
+    let n = c.type_byte_at in
+    let front = whole-told a.satellite a.frame.now c.in_ok-front.front c.in_ok-front.ensures.value in
+    let enough : length (entry_in a.satellite a.frame.now).widths ≤ length a.room.now =
+    omega (arith, c.if-room-front.false, ap (λ (f : Front). f.layout.fields) front.1) in
+    let right = checked-as a.satellite a.frame.now front.0 n.result n.ensures ∙ was-right _ _ c.in_ok-tell.ensures.value in
+    let told = accepts register_of a.satellite a.frame.now a.room.now front.0 enough right in
     record {
-      value = c.refused-2.ensures ∙ told.0;
+      value = ap (λ (f : Front). read_as f.ty f.layout.fields) front.1 ∙ told.0;
       room_after =
-          left a.satellite a.frame.now whole n place a.room.now tell.new.room front.result.layout tell.result _ at
-          tell.ensures.room_after c.if-tell.false
-          ∙ told.1;
+          c.tell.ensures.room_after
+          ∙ left-as a.satellite a.frame.now front.0 n.result n.ensures a.room.now c.in_ok-front.front.layout (ap (λ (f : Front). f.layout) front.1)
+          ∙ rw right told.1;
     }

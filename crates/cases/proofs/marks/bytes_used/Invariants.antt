@@ -1,9 +1,0 @@
--- `n` comes down from the end of the output.
-use Rattle.std.proofs.Common.{◌≤◌, length}
-use Rattle.cases.proofs.marks.bytes_used.Given as goal
-
-abbrev pub invariant-loop-n : goal.invariant-loop-n
-invariant-loop-n l = l.n ≤ length l.output
-
-abbrev pub decreases-loop-n : goal.decreases-loop-n
-decreases-loop-n l = l.n
