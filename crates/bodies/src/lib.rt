@@ -47,6 +47,7 @@ pub fn write(layout: Layout, values: &[u32], body: &mut [u8])
 {
     let mut at = 0;
     let widths = widths(&layout);
+    // With the field's number, since its value may be missing.
     for (k, &width) in widths.iter().enumerate() {
         let value = values.get(k).copied().unwrap_or(0);
         bits::replace_field(body, at, width as usize, value);

@@ -37,7 +37,7 @@ mod line;
 mod marks;
 mod page;
 
-use input::{Input, TooLong};
+use input::{Place, TooLong};
 use line::Tally;
 use std::io;
 use std::io::{Read, Write};
@@ -62,11 +62,11 @@ fn main(rt: HostRuntime) -> ExitCode {
 // Stops where what is said of a case cannot be written: whoever reads it has gone.
 fn compare<R: Read, W: Write>(from: &mut R, to: &mut W) -> io::Result<()> {
     let mut part = [0; PART];
-    let mut input = Input::new(&mut part);
     let mut line = [0; MOST_LETTERS];
+    let mut place = Place::default();
     let mut tally = Tally::default();
     for number in 1..MOST_LINES {
-        let Some(found) = input.next(from, &mut line) else {
+        let Some(found) = input::next(from, &mut part, &mut line, &mut place) else {
             // The last line may be missing.
             let _ = write!(to, "{tally}\n");
             return Ok(());

@@ -1,7 +1,7 @@
 // Lines of standard input: each is answered when its end is read.
 use crate::following::Rows;
 use crate::{commands, given};
-use input::{Input, TooLong};
+use input::{Place, TooLong};
 use std::io::Read;
 
 // The end of an answer or of a row could not be written: whoever reads the answers has gone. No more follow.
@@ -14,26 +14,28 @@ const MOST_LINES: u64 = 0xFFFF_FFFF_FFFF;
 // Standard output.
 const STDOUT_FILENO: i32 = 1;
 
-// What reads the lines, and the place of the one that was read.
+// What reads the lines: the reader, what came of it, the line that was read, and where the next begins.
 #[derive(Drop)]
 pub(crate) struct Lines<'l, R> {
-    input: Input<'l>,
     from: &'l mut R,
+    part: &'l mut [u8],
     line: &'l mut [u8],
+    place: Place,
 }
 
 impl<'l, R: Read> Lines<'l, R> {
     pub(crate) fn new(from: &'l mut R, part: &'l mut [u8], line: &'l mut [u8]) -> Self {
         Lines {
-            input: Input::new(part),
             from,
+            part,
             line,
+            place: Place::default(),
         }
     }
 
     // The next line; none where no line is left.
     fn next(&mut self) -> Option<Result<&[u8], TooLong>> {
-        match self.input.next(self.from, self.line)? {
+        match input::next(self.from, self.part, self.line, &mut self.place)? {
             Ok(letters) => Some(Ok(&self.line[..letters])),
             Err(TooLong) => Some(Err(TooLong)),
         }

@@ -29,7 +29,7 @@ use Rattle.refusals.specs.declared.Refusal.{Refusal}
 use Rattle.refusals.proofs.Refusals.{number-above}
 use Rattle.frames.specs.Answers.{written_in_numbers}
 use Rattle.frames.proofs.Told.{refused-written}
-use Rattle.fronts.specs.Fronts.{front_of}
+use Rattle.fronts.specs.Fronts.{tested_by}
 use Rattle.fronts.proofs.Told.{whole-refused}
 use Rattle.refusals.proofs.Tests.{numbered, holds-numbered}
 use Rattle.frames.proofs.Fronts.{whole-fails, front-is, is_carried, is-typed, clear-length, clear-tiled}
@@ -44,7 +44,7 @@ unknown-refused r frame k v = (refl, refl)
 
 module _ (r : Registers) (s : Satellite) (frame : List ℕ) (k v : ℕ) where
   -- tests 2 to 7
-  pub whole-refuses : (e : Refusal) → Err e ≡ front_of (whole_tests s frame) s frame
+  pub whole-refuses : (e : Refusal) → Err e ≡ tested_by (whole_tests s frame) s frame
       → Answers r s frame k v (written_in_numbers (Err e)) frame
   unfolding editing_tests frame_tests
   whole-refuses e told =

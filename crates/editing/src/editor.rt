@@ -20,7 +20,7 @@ pub(crate) fn edit(
     ensures value { written_in_numbers result ≡ editing (Some satellite) frame.old field value }
     ensures frame_after { frame.new ≡ frame_after (Some satellite) frame.old field value }
 {
-    let front = fronts::whole(satellite, frame)?;
+    let front = fronts::whole(satellite, frame).map_err(|refused| refused.refusal)?;
     let part = &mut frame[satellite.type_byte_at()..];
     change(NEAR, FAR, START, front.layout, field, value, part)?;
     Ok(front.layout.frame)

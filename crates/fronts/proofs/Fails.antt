@@ -19,7 +19,7 @@ use Rattle.frames.specs.Frames.{frame_length, size_in, type_of, entry_in}
 use Rattle.frames.specs.Reading.{front_tests, whole_tests}
 use Rattle.frames.proofs.Fronts.{long, preamble, addressed, carried, sized}
 use Rattle.fronts.specs.declared.Front.{Front}
-use Rattle.fronts.specs.Fronts.{front_in, front_of}
+use Rattle.fronts.specs.Fronts.{front_in, tested_by}
 
 module _ (s : Satellite) (frame : List ℕ) where
   -- test 6, by whether there is a size byte
@@ -39,7 +39,7 @@ module _ (s : Satellite) (frame : List ℕ) where
   no-size-byte none = ap (λ (b : Bool). not b || eqb (size_in s frame) (entry_in s frame).size) none
 
   abbrev pub answered : Result Front Refusal → Type 0
-  answered result = result ≡ front_of (front_tests s frame) s frame
+  answered result = result ≡ tested_by (front_tests s frame) s frame
 
   -- each that fails first
   pub fails-2 : long s frame ≡ false → answered (Err Short)
@@ -78,7 +78,7 @@ module _ (s : Satellite) (frame : List ℕ) where
 
   -- test 7, behind them
   abbrev pub answered-whole : Result Front Refusal → Type 0
-  answered-whole result = result ≡ front_of (whole_tests s frame) s frame
+  answered-whole result = result ≡ tested_by (whole_tests s frame) s frame
 
   pub front-refused : (refusal : Refusal) → answered (Err refusal) → answered-whole (Err refusal)
   unfolding whole_tests

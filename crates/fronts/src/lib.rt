@@ -7,7 +7,7 @@ mod preamble;
 ghost use Rattle.std.specs.Prelude.{◌≡◌};
 ghost use Rattle.frames.specs.Frames.{type_of};
 ghost use Rattle.frames.specs.Reading.{front_tests, whole_tests};
-ghost use Rattle.fronts.specs.Fronts.{front_of};
+ghost use Rattle.fronts.specs.Fronts.{front_of, refused_in, tested_by};
 
 use layouts::Layout;
 use refusals::Refusal;
@@ -23,9 +23,45 @@ pub struct Front {
     pub layout: Layout,
 }
 
+// A front that is refused: why, and what is told of its type; where the front ends before the type byte, of type 0.
+#[derive(Clone, Copy, Debug, PartialEq, Eq)]
+pub struct Refused {
+    pub refusal: Refusal,
+    pub ty: u32,
+    pub layout: Option<Layout>,
+}
+
 // Tests 2 to 6, whatever comes behind the type byte.
-pub fn of(satellite: Satellite, frame: &[u8]) -> Result<Front, Refusal>
+pub fn of(satellite: Satellite, frame: &[u8]) -> Result<Front, Refused>
     ensures value { result ≡ front_of (front_tests satellite frame.now) satellite frame.now }
+    ensures frame_unchanged { frame.exit.now ≡ frame.entry.now }
+{
+    tested(satellite, frame).map_err(|refusal| refusal_told(refusal, satellite, frame))
+}
+
+// Tests 2 to 7, on a whole frame.
+pub fn whole(satellite: Satellite, frame: &[u8]) -> Result<Front, Refused>
+    ensures value { result ≡ front_of (whole_tests satellite frame.now) satellite frame.now }
+    ensures frame_unchanged { frame.exit.now ≡ frame.entry.now }
+{
+    tested_whole(satellite, frame).map_err(|refusal| refusal_told(refusal, satellite, frame))
+}
+
+// A refusal, and what is told of the type of the front that it refuses.
+fn refusal_told(refusal: Refusal, satellite: Satellite, frame: &[u8]) -> Refused
+    ensures { result ≡ refused_in satellite frame.now refusal }
+{
+    let sent = type_sent(satellite, frame);
+    Refused {
+        refusal,
+        ty: sent,
+        layout: layouts::of(satellite, sent),
+    }
+}
+
+// The first of tests 2 to 6 that fails.
+fn tested(satellite: Satellite, frame: &[u8]) -> Result<Front, Refusal>
+    ensures value { result ≡ tested_by (front_tests satellite frame.now) satellite frame.now }
     ensures frame_unchanged { frame.exit.now ≡ frame.entry.now }
 {
     let at = satellite.type_byte_at();
@@ -46,12 +82,12 @@ pub fn of(satellite: Satellite, frame: &[u8]) -> Result<Front, Refusal>
     Ok(Front { ty, layout })
 }
 
-// Tests 2 to 7, on a whole frame.
-pub fn whole(satellite: Satellite, frame: &[u8]) -> Result<Front, Refusal>
-    ensures value { result ≡ front_of (whole_tests satellite frame.now) satellite frame.now }
+// The first of tests 2 to 7 that fails.
+fn tested_whole(satellite: Satellite, frame: &[u8]) -> Result<Front, Refusal>
+    ensures value { result ≡ tested_by (whole_tests satellite frame.now) satellite frame.now }
     ensures frame_unchanged { frame.exit.now ≡ frame.entry.now }
 {
-    let front = of(satellite, frame)?;
+    let front = tested(satellite, frame)?;
     if frame.len() != front.layout.frame {
         return Err(Refusal::Length);
     }

@@ -10,23 +10,10 @@ use mathlib.Core.Path.{◌≡◌, ◌∙◌, sym}
 use mathlib.Core.Bool.{true}
 use Rattle.std.specs.contracts.io.Stdin as stdin
 use Rattle.input.specs.Lines.{ready}
-use Rattle.input.proofs.Input.new.Reads as new
-use Rattle.input.proofs.Input.next.Reads as next
-use Rattle.input.proofs.Input.resumed.Reads as resumed
+use Rattle.input.proofs.next.Reads as next
 
-pub new-determined : (κs a r r' s s' : _) → new.Post κs a r s → new.Post κs a r' s' → r ≡ r'
-new-determined κs a r r' s s' p q = p ∙ sym q
-
-pub new-asks-nothing : (κs a : _) → new.Pre κs a
-new-asks-nothing κs a = tt
-
-pub resumed-determined : (κs a r r' s s' : _) → resumed.Post κs a r s → resumed.Post κs a r' s' → r ≡ r'
-resumed-determined κs a r r' s s' p q = p ∙ sym q
-
-pub resumed-asks-nothing : (κs a : _) → resumed.Pre κs a
-resumed-asks-nothing κs a = tt
-
-pub next-asks-nothing : (R : RattleType) (laws read dict : _) (κs : Lfts 5) (a : _) → κs.1.1.1.1.0 ⊑ R.lives → next.Pre R laws read dict κs a
+pub next-asks-nothing : (R : RattleType) (laws read dict : _) (κs : Lfts 5) (a : _)
+    → κs.1.1.1.1.0 ⊑ R.lives → next.Pre R laws read dict κs a
 next-asks-nothing R laws read dict κs a lives = lives
 
 pub next-asks-nothing-of-stdin : (laws read dict κs a : _) → next.Pre stdin.the_row laws read dict κs a
@@ -34,9 +21,9 @@ next-asks-nothing-of-stdin laws read dict κs a = λ k m. absurd (not-mem-nil m)
 
 pub next-determined-when-ready : (R laws read dict κs a r s r' s' : _) → next.Post R laws read dict κs a r s
     → next.Post R laws read dict κs a r' s'
-    → ready a.0.now ≡ true
-    → (r ≡ r') × ((s.0.now ≡ s'.0.now) × ((s.1.0.now ≡ s'.1.0.now) × (s.1.1.0.now ≡ s'.1.1.0.now)))
+    → ready a.1.0.now a.1.1.1.0.now ≡ true
+    → (r ≡ r') × ((s.0.now ≡ s'.0.now) × ((s.1.0.now ≡ s'.1.0.now) × ((s.1.1.0.now ≡ s'.1.1.0.now) × (s.1.1.1.0.now ≡ s'.1.1.1.0.now))))
 next-determined-when-ready R laws read dict κs a r s r' s' p q h =
-    let f = p.1.1.0 h in
-    let g = q.1.1.0 h in
-    (f.0 ∙ sym g.0, (f.1.1 ∙ sym g.1.1, (p.1.1.1 h ∙ sym (q.1.1.1 h), f.1.0 ∙ sym g.1.0)))
+    let f = p.1.1.1.0 h in
+    let g = q.1.1.1.0 h in
+    (f.0 ∙ sym g.0, (p.1.1.1.1 h ∙ sym (q.1.1.1.1 h), (f.1.1.1 ∙ sym g.1.1.1, (f.1.1.0 ∙ sym g.1.1.0, f.1.0 ∙ sym g.1.0))))

@@ -1,5 +1,4 @@
 pub mod Contracts
 pub mod Determined
 pub mod Laws
-pub mod Taken
 pub mod Worked

@@ -1,33 +1,43 @@
 -- The next line, where nothing has to be read for it: its end is among the bytes that were read already, or no more come.
-use Rattle.std.specs.Prelude.{ℕ, ◌+◌, min, Bool, cond, ◌||◌, List, length, take, drop, ltb, Option, Some, None, Result, Ok, Err}
+use Rattle.std.specs.Prelude.{ℕ, ◌+◌, min, Bool, true, cond, ◌||◌, List, length, take, ltb, Option, Some, None, Result, Ok, Err}
 use Rattle.std.specs.List.{between}
 use Rattle.pages.specs.Places.{index_of}
+use Rattle.input.specs.declared.Place.{Place}
 use Rattle.input.specs.declared.TooLong.{TooLong}
 
--- the bytes that were read and are not taken yet, and whether no more come
-pub record Came : Type 0 where
-  pub bytes : List ℕ
-  pub ended : Bool
+-- where the unread bytes end, and where they begin; of a place outside the part, what lies inside
+abbrev pub end_of : List ℕ → Place → ℕ
+end_of part place = min place.end (length part)
 
--- the bytes of a part from one place up to another; of places outside the part, those that lie inside
-abbrev pub unread : List ℕ → ℕ → ℕ → List ℕ
-unread part at end = between (min at (min end (length part))) (min end (length part)) part
+abbrev pub start_of : List ℕ → Place → ℕ
+start_of part place = min place.at (end_of part place)
 
--- a line's end, of which the code is 10, is among the bytes
-abbrev pub has_end : Came → Bool
-has_end came = ltb (index_of 10 came.bytes) (length came.bytes)
+abbrev pub unread : List ℕ → Place → List ℕ
+unread part place = between (start_of part place) (end_of part place) part
+
+-- a line's end, of which the code is 10, is among the unread bytes
+abbrev pub has_end : List ℕ → Place → Bool
+has_end part place = ltb (index_of 10 (unread part place)) (length (unread part place))
 
 -- nothing has to be read
-abbrev pub ready : Came → Bool
-ready came = has_end came || came.ended
+abbrev pub ready : List ℕ → Place → Bool
+ready part place = has_end part place || place.ended
 
--- the bytes ahead of the line's end; all of them where there is none
-abbrev pub line_of : Came → List ℕ
-line_of came = take (index_of 10 came.bytes) came.bytes
+-- the unread bytes ahead of the line's end; all of them where there is none
+abbrev pub line_of : List ℕ → Place → List ℕ
+line_of part place = take (index_of 10 (unread part place)) (unread part place)
 
--- what is left behind the line and its end
-abbrev pub behind : Came → Came
-behind came = record { bytes = drop (index_of 10 came.bytes + 1) came.bytes; ended = came.ended }
+-- the place behind the line's end
+abbrev pub behind : List ℕ → Place → Place
+behind part place = record { at = start_of part place + length (line_of part place) + 1; end = end_of part place; ended = place.ended }
+
+-- no byte is left, and no more come
+abbrev pub over : Place
+over = record { at = 0; end = 0; ended = true }
+
+-- the place of what is unread behind the line, where nothing has to be read
+abbrev pub next_place : List ℕ → Place → Place
+next_place part place = cond (has_end part place) (behind part place) over
 
 -- the answer for a room of so many letters, and a line of so many
 abbrev pub answer : ℕ → ℕ → Result ℕ TooLong
@@ -38,5 +48,6 @@ abbrev pub last_of : ℕ → ℕ → Option (Result ℕ TooLong)
 last_of room letters = cond (ltb 0 letters) (Some (answer room letters)) None
 
 -- the answer where nothing has to be read
-abbrev pub found : ℕ → Came → Option (Result ℕ TooLong)
-found room came = cond (has_end came) (Some (answer room (length (line_of came)))) (last_of room (length (line_of came)))
+abbrev pub found : ℕ → List ℕ → Place → Option (Result ℕ TooLong)
+found room part place =
+    cond (has_end part place) (Some (answer room (length (line_of part place)))) (last_of room (length (line_of part place)))

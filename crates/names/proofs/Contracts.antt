@@ -6,7 +6,7 @@ use mathlib.Core.Path.{◌≡◌}
 use mathlib.Core.List.{[]}
 use lib.ListN.{get_or}
 use Rattle.names.specs.Names.{parts_of}
-use Rattle.names.specs.Fields.{satellite_name, names_of, name_of, row_of}
+use Rattle.names.specs.Fields.{satellite_name, names_of, name_of, joined_names}
 use Rattle.names.proofs.of.Reads as name
 use Rattle.names.proofs.in_row.Reads as in_row
 use Rattle.names.proofs.row.Reads as row
@@ -19,7 +19,7 @@ pub in-row-says : (κs a r s : _) → in_row.Post κs a r s
     → (r.now ≡ get_or (parts_of 32 a.0.now) a.1.0 []) × (s.0.now ≡ a.0.now)
 in-row-says κs a r s p = p
 
-pub row-says : (κs a r s : _) → row.Post κs a r s → r.now ≡ row_of (names_of a.0 a.1.0)
+pub row-says : (κs a r s : _) → row.Post κs a r s → r.now ≡ joined_names (names_of a.0 a.1.0)
 row-says κs a r s p = p
 
 pub of-satellite-says : (κs a r s : _) → satellite.Post κs a r s → r.now ≡ satellite_name a.0

@@ -5,7 +5,7 @@ use Rattle.words.specs.Words.{text}
 use Rattle.names.specs.Names.{words, index, array_of, grid_of, prefixed}
 use Rattle.satellites.specs.declared.Satellite.TheVariants.{HadesD, HadesIcm, MariaG, Unne1, HadesR, Unne1b, HadesSa}
 use Rattle.layouts.specs.Layouts.{counted, among}
-use Rattle.names.specs.Fields.{table, names_in, name_of, row_of}
+use Rattle.names.specs.Fields.{table, names_in, name_of, joined_names}
 
 -- a string is its characters' codes
 pub text-is : text "td" ≡ 116 ∷ 100 ∷ []
@@ -38,7 +38,7 @@ unfolding text
 parts_are = refl
 
 -- in a row there is a blank between two names, and none behind the last
-pub row-is : row_of (text "utc" ∷ text "adr" ∷ []) ≡ text "utc adr"
+pub row-is : joined_names (text "utc" ∷ text "adr" ∷ []) ≡ text "utc adr"
 unfolding text
 row-is = refl
 

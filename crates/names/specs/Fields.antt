@@ -73,5 +73,5 @@ abbrev pub row_length : ℕ
 row_length = 1024
 
 -- names as a row: one after the other, a blank between two
-abbrev pub row_of : List (List ℕ) → List ℕ
-row_of names = join_with_byte 32 names
+abbrev pub joined_names : List (List ℕ) → List ℕ
+joined_names names = join_with_byte 32 names

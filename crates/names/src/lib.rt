@@ -6,7 +6,7 @@ mod table;
 
 ghost use Rattle.std.specs.Prelude.{◌≡◌, [], get_or};
 ghost use Rattle.names.specs.Names.{parts_of};
-ghost use Rattle.names.specs.Fields.{satellite_name, names_of, name_of, row_of};
+ghost use Rattle.names.specs.Fields.{satellite_name, names_of, name_of, joined_names};
 
 use satellites::Satellite;
 use table::LINES;
@@ -32,7 +32,7 @@ pub fn in_row(row: &[u8], field: usize) -> &[u8]
 // The names of the fields of a satellite's type in their order, with a blank between two. Empty for a type that the satellite does not
 // carry.
 pub fn row(satellite: Satellite, ty: u32) -> &'static [u8]
-    ensures { result.now ≡ row_of (names_of satellite ty) }
+    ensures { result.now ≡ joined_names (names_of satellite ty) }
 {
     let number = satellite.number();
     LINES

@@ -27,7 +27,7 @@ use Rattle.refusals.proofs.Refusals.{number-above}
 use Rattle.refusals.proofs.Tests.{stops}
 use Rattle.frames.specs.Answers.{read_in_numbers}
 use Rattle.frames.proofs.Told.{refused-read}
-use Rattle.fronts.specs.Fronts.{front_of}
+use Rattle.fronts.specs.Fronts.{tested_by}
 use Rattle.fronts.proofs.Told.{whole-refused}
 use Rattle.std.proofs.lemmas.Result.{IfErr-at_err}
 use Rattle.std.specs.Result.{is_ok}
@@ -55,7 +55,7 @@ module _ (r : Registers) (s : Satellite) (frame room : List ℕ) where
   refuses = refused-with r s frame room
 
   -- tests 2 to 7
-  pub whole-refuses : (e : Refusal) → Err e ≡ front_of (whole_tests s frame) s frame
+  pub whole-refuses : (e : Refusal) → Err e ≡ tested_by (whole_tests s frame) s frame
       → (read_in_numbers (Err e) ≡ reading_by r (Some s) frame room) × (room ≡ room_after_by r (Some s) frame room)
   unfolding reading_tests
   whole-refuses e told =

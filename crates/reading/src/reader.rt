@@ -20,7 +20,7 @@ pub(crate) fn read(
     ensures value { read_in_numbers result ≡ reading (Some satellite) frame.now room.old }
     ensures room_after { room.new ≡ room_after (Some satellite) frame.now room.old }
 {
-    let front = fronts::whole(satellite, frame)?;
+    let front = fronts::whole(satellite, frame).map_err(|refused| refused.refusal)?;
     if room.len() < front.layout.fields {
         return Err(Refusal::Room);
     }

@@ -7,7 +7,7 @@ use Rattle.layouts.specs.Layouts.{counted}
 use Rattle.layouts.specs.Rules.{every}
 use Rattle.words.specs.Words.{text}
 use Rattle.names.specs.Names.{index, array_of, grid_of}
-use Rattle.names.specs.Fields.{table, names_in, row_of}
+use Rattle.names.specs.Fields.{table, names_in, joined_names}
 use Rattle.names.proofs.Kept.{keeps, is_of, row_kept}
 use Rattle.names.proofs.row.Goals as goal
 
@@ -19,4 +19,4 @@ returns c =
     let lines = c.iter.result.rest.now in
     let found = find_from_yields_List (is_of number ty) _ _ c.find.result c.find.ensures.ran (YieldsList-from_slice lines refl) (λ x b q k. search (rules, tests)) in
     let row = row_kept number ty lines c.find.result c.map_or.result.now c.iter.ensures.rest tt found c.map_or.ensures (λ e. ap (λ b. b.now) e) (λ w e. search (rules, tests)) in
-    row ∙ ap (λ n. row_of (names_in n ty table)) c.number-number.ensures
+    row ∙ ap (λ n. joined_names (names_in n ty table)) c.number-number.ensures

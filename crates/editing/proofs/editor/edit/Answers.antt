@@ -16,7 +16,7 @@ use Rattle.frames.proofs.Registers.{handed}
 use Rattle.frames.specs.Answers.{written_in_numbers}
 use Rattle.frames.specs.Frames.{from_type_byte, entry_in}
 use Rattle.frames.proofs.Writings.{wrote_as}
-use Rattle.fronts.proofs.Told.{whole-told}
+use Rattle.fronts.proofs.Told.{whole-alone, whole-told}
 use Rattle.fronts.proofs.Lent.{lies-inside, lent-part, lent-least, lent-most}
 use Rattle.editing.specs.Changed.{part_tests, part_after}
 use Rattle.editing.proofs.Changes.{Leaves}
@@ -45,13 +45,13 @@ pub returns-in_err-front : goal.returns-in_err-front
 returns-in_err-front c =
     let a = c.args in
     let found = c.in_err-front.field-0.0 in
-    let told = whole-refuses register_of a.satellite a.frame.now a.field a.value found c.in_err-front.ensures.value in
+    let told = whole-refuses register_of a.satellite a.frame.now a.field a.value found (whole-alone a.satellite a.frame.now c.whole.ensures.value (search (rules, c.in_err-front.ensures.cases))) in
     record { value = ap written_in_numbers (handed-on c.from_residual.result found c.from_residual.ensures.1) ∙ told.0; frame_after = told.1 }
 
 pub slice_bounds-part-count : goal.slice_bounds-part-count
 slice_bounds-part-count c =
     let a = c.args in
-    let front = whole-told a.satellite a.frame.now c.in_ok-front.front c.in_ok-front.ensures.value in
+    let front = whole-told a.satellite a.frame.now c.in_ok-front.front (whole-alone a.satellite a.frame.now c.whole.ensures.value c.in_ok-front.ensures.cases) in
     lies-inside a.satellite a.frame.now front.0 c.type_byte_at.result c.type_byte_at.ensures
 
 pub slice_bounds-part-start : goal.slice_bounds-part-start
@@ -61,7 +61,7 @@ pub change-requires : goal.change-requires
 change-requires c =
     let a = c.args in
     let n = c.type_byte_at in
-    let front = whole-told a.satellite a.frame.now c.in_ok-front.front c.in_ok-front.ensures.value in
+    let front = whole-told a.satellite a.frame.now c.in_ok-front.front (whole-alone a.satellite a.frame.now c.whole.ensures.value c.in_ok-front.ensures.cases) in
     record {
       in_bounds = lent-least a.satellite a.frame.now front.0 n.result n.ensures;
       part_len_bound = lent-most a.satellite a.frame.now front.0 n.result n.ensures;
@@ -73,7 +73,7 @@ returns-in_err-change c =
     let s = a.satellite in
     let frame = a.frame.now in
     let n = c.type_byte_at in
-    let front = whole-told s frame c.in_ok-front.front c.in_ok-front.ensures.value in
+    let front = whole-told s frame c.in_ok-front.front (whole-alone s frame c.whole.ensures.value c.in_ok-front.ensures.cases) in
     let left = c.change.new.part in
     let found = c.in_err-change.field-0.0 in
     let leaves =
@@ -91,7 +91,7 @@ returns c =
     let s = a.satellite in
     let frame = a.frame.now in
     let n = c.type_byte_at in
-    let front = whole-told s frame c.in_ok-front.front c.in_ok-front.ensures.value in
+    let front = whole-told s frame c.in_ok-front.front (whole-alone s frame c.whole.ensures.value c.in_ok-front.ensures.cases) in
     let left = c.change.new.part in
     let leaves =
     leaves-as s c.in_ok-front.front.layout (laid_out s (entry_in s frame)) _ (from_type_byte s frame) a.field a.value (Ok _) left

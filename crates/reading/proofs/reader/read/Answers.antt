@@ -1,6 +1,6 @@
 -- `reading::reader::read` meets its contract: the first test that fails refuses, and where none does the room is filled.
 -- Assumes nothing.
-use Rattle.std.proofs.Common.{◌≡◌, sym, ◌∙◌, ap, ap₂, Err, ℕ, ◌-◌, ◌≤◌, ◌<◌, Bool, List, length, take, drop, arith}
+use Rattle.std.proofs.Common.{rules, ◌≡◌, sym, ◌∙◌, ap, ap₂, Err, ℕ, ◌-◌, ◌≤◌, ◌<◌, Bool, List, length, take, drop, arith}
 use Rattle.satellites.specs.declared.Satellite.{Satellite}
 use Rattle.satellites.specs.Satellites.{type_byte_at}
 use Rattle.layouts.specs.declared.Layout.{Layout}
@@ -14,7 +14,7 @@ use Rattle.frames.specs.Reading.{checksum_right, whole_tests}
 use Rattle.frames.proofs.Registers.{handed}
 use Rattle.frames.proofs.Readings.{read_as}
 use Rattle.fronts.specs.declared.Front.{Front}
-use Rattle.fronts.proofs.Told.{whole-told}
+use Rattle.fronts.proofs.Told.{whole-alone, whole-told}
 use Rattle.fronts.proofs.Lent.{lies-inside, lent-part, lent-least, lent-most}
 use Rattle.scrambler.specs.Scrambler.{from, NEAR, FAR, START}
 use Rattle.reading.specs.Told.{told_to}
@@ -25,13 +25,13 @@ pub returns-in_err-front : goal.returns-in_err-front
 returns-in_err-front c =
     let a = c.args in
     let found = c.in_err-front.field-0.0 in
-    let told = whole-refuses register_of a.satellite a.frame.now a.room.now found c.in_err-front.ensures.value in
+    let told = whole-refuses register_of a.satellite a.frame.now a.room.now found (whole-alone a.satellite a.frame.now c.whole.ensures.value (search (rules, c.in_err-front.ensures.cases))) in
     record { value = ap read_in_numbers (handed-on c.from_residual.result found c.from_residual.ensures.1) ∙ told.0; room_after = told.1 }
 
 pub returns-then-room-front : goal.returns-then-room-front
 returns-then-room-front c =
     let a = c.args in
-    let front = whole-told a.satellite a.frame.now c.in_ok-front.front c.in_ok-front.ensures.value in
+    let front = whole-told a.satellite a.frame.now c.in_ok-front.front (whole-alone a.satellite a.frame.now c.whole.ensures.value c.in_ok-front.ensures.cases) in
     let small : length a.room.now < length (entry_in a.satellite a.frame.now).widths =
     omega (arith, c.if-room-front.true, ap (λ (f : Front). f.layout.fields) front.1) in
     let told = refuses-8 register_of a.satellite a.frame.now a.room.now front.0 small in
@@ -40,7 +40,7 @@ returns-then-room-front c =
 pub slice_bounds-sent-count : goal.slice_bounds-sent-count
 slice_bounds-sent-count c =
     let a = c.args in
-    let front = whole-told a.satellite a.frame.now c.in_ok-front.front c.in_ok-front.ensures.value in
+    let front = whole-told a.satellite a.frame.now c.in_ok-front.front (whole-alone a.satellite a.frame.now c.whole.ensures.value c.in_ok-front.ensures.cases) in
     lies-inside a.satellite a.frame.now front.0 c.type_byte_at.result c.type_byte_at.ensures
 
 pub slice_bounds-sent-start : goal.slice_bounds-sent-start
@@ -50,7 +50,7 @@ pub tell-requires : goal.tell-requires
 tell-requires c =
     let a = c.args in
     let n = c.type_byte_at in
-    let front = whole-told a.satellite a.frame.now c.in_ok-front.front c.in_ok-front.ensures.value in
+    let front = whole-told a.satellite a.frame.now c.in_ok-front.front (whole-alone a.satellite a.frame.now c.whole.ensures.value c.in_ok-front.ensures.cases) in
     record {
       in_bounds = lent-least a.satellite a.frame.now front.0 n.result n.ensures;
       sent_len_bound = lent-most a.satellite a.frame.now front.0 n.result n.ensures;
@@ -80,7 +80,7 @@ returns-in_err-tell c =
     let a = c.args in
     let n = c.type_byte_at in
     let found = c.in_err-tell.field-0.0 in
-    let front = whole-told a.satellite a.frame.now c.in_ok-front.front c.in_ok-front.ensures.value in
+    let front = whole-told a.satellite a.frame.now c.in_ok-front.front (whole-alone a.satellite a.frame.now c.whole.ensures.value c.in_ok-front.ensures.cases) in
     let enough : length (entry_in a.satellite a.frame.now).widths ≤ length a.room.now =
     omega (arith, c.if-room-front.false, ap (λ (f : Front). f.layout.fields) front.1) in
     let its = was-wrong _ found c.in_err-tell.ensures.value in
@@ -98,7 +98,7 @@ pub returns : goal.returns
 returns c =
     let a = c.args in
     let n = c.type_byte_at in
-    let front = whole-told a.satellite a.frame.now c.in_ok-front.front c.in_ok-front.ensures.value in
+    let front = whole-told a.satellite a.frame.now c.in_ok-front.front (whole-alone a.satellite a.frame.now c.whole.ensures.value c.in_ok-front.ensures.cases) in
     let enough : length (entry_in a.satellite a.frame.now).widths ≤ length a.room.now =
     omega (arith, c.if-room-front.false, ap (λ (f : Front). f.layout.fields) front.1) in
     let right = checked-as a.satellite a.frame.now front.0 n.result n.ensures ∙ was-right _ _ c.in_ok-tell.ensures.value in

@@ -2,7 +2,7 @@
 use Rattle.std.proofs.Common.{sym, ◌∙◌, ap, Ok}
 use Rattle.refusals.proofs.Answered.{handed-on}
 use Rattle.fronts.proofs.Fails.{is-front, front-refused, fails-7, whole-passes}
-use Rattle.fronts.proofs.whole.Goals as goal
+use Rattle.fronts.proofs.tested_whole.Goals as goal
 
 pub returns-in_err-front-clause-value : goal.returns-in_err-front-clause-value
 returns-in_err-front-clause-value c =

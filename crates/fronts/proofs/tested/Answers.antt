@@ -12,8 +12,8 @@ use Rattle.layouts.proofs.Laid.{some-layout, none-layout}
 use Rattle.frames.specs.Frames.{size_in, from_type_byte, address_in, type_of, entry_in}
 use Rattle.frames.proofs.Fronts.{first-at, long, preamble, addressed, carried, sized}
 use Rattle.fronts.proofs.Fails.{size-differs, size-agrees, no-size-byte, fails-2, fails-3, fails-4, fails-5, fails-6, Addressed, passes}
-use Rattle.fronts.proofs.of.Goals as goal
-use Rattle.fronts.proofs.of.Goals.{else-has_size_byte-via-then-has_size_byte+else-frame-at-3, else-has_size_byte-via-else-has_size_byte}
+use Rattle.fronts.proofs.tested.Goals as goal
+use Rattle.fronts.proofs.tested.Goals.{else-has_size_byte-via-then-has_size_byte+else-frame-at-3, else-has_size_byte-via-else-has_size_byte}
 
 -- what the call is given, and where the type byte stands
 module _ (s : Satellite) (frame : List ℕ) (at : ℕ) (place : at ≡ type_byte_at s) where
