@@ -39,7 +39,7 @@ pub fn of(satellite: Satellite, frame: &[u8]) -> Result<Front, Refused>
     tested(satellite, frame).map_err(|refusal| refusal_told(refusal, satellite, frame))
 }
 
-// Tests 2 to 7, on a whole frame.
+// Tests 2 to 7, on a whole frame. One line, as `of`: each goes over a function of its own.
 pub fn whole(satellite: Satellite, frame: &[u8]) -> Result<Front, Refused>
     ensures value { result ≡ front_of (whole_tests satellite frame.now) satellite frame.now }
     ensures frame_unchanged { frame.exit.now ≡ frame.entry.now }

@@ -3,7 +3,7 @@
 
 ghost use Rattle.std.specs.Prelude.{◌≡◌, true, ◌≤◌, length, IfSome, IfOk};
 ghost use Rattle.pages.specs.Pages.{put as put·on};
-ghost use Rattle.input.specs.Lines.{ready, line_of, next_place, over, answer, last_of, found};
+ghost use Rattle.input.specs.Lines.{ready, line_of, next_place, answer, last_of, found};
 
 use std::io::Read;
 

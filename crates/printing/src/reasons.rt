@@ -1,5 +1,5 @@
 // Refusals in words: the number and meaning of the scope document, then what was found and expected (01, "What is refused, and in which
-// order"; FORMAT 7).
+// order"; FORMAT 7). Satellite and frame are two parameters, as in `fronts`.
 use crate::{satellite, say, tests, text};
 use satellites::Satellite;
 
