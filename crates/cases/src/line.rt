@@ -39,7 +39,13 @@ impl fmt::Display for Tally {
 }
 
 pub(crate) fn too_long<W: Write>(line: u64, to: &mut W) -> io::Result<Verdict> {
-    write!(to, "line {line}: too long\n")?;
+    differs(line, b"too long\n", to)
+}
+
+// Here and below each part of what is said is tried, whatever became of those ahead: that the last could be written is the answer.
+fn differs<W: Write>(line: u64, what: &[u8], to: &mut W) -> io::Result<Verdict> {
+    let _ = write!(to, "line {line}: ");
+    to.write_all(what)?;
     Ok(Verdict::Differs)
 }
 
@@ -60,15 +66,10 @@ fn controlled<W: Write>(text: &[u8], line: u64, to: &mut W) -> io::Result<Verdic
     };
     let answered = calls::answer(call, &mut page);
     if answered.is_none() {
-        write!(to, "line {line}: a call that is not understood\n")?;
-        return Ok(Verdict::Differs);
+        return differs(line, b"a call that is not understood\n", to);
     }
     if expected.is_some_and(|expected| agree(expected, answered)) {
-        write!(
-            to,
-            "line {line}: a wrong answer is taken for the right one\n"
-        )?;
-        return Ok(Verdict::Differs);
+        return differs(line, b"a wrong answer is taken for the right one\n", to);
     }
     Ok(Verdict::Same)
 }
@@ -77,15 +78,15 @@ fn controlled<W: Write>(text: &[u8], line: u64, to: &mut W) -> io::Result<Verdic
 fn compared<W: Write>(text: &[u8], line: u64, to: &mut W) -> io::Result<Verdict> {
     let mut page = Page::new();
     if !text.contains(&b'|') {
-        to.write_all(text)?;
-        to.write_all(b" | ")?;
-        to.write_all(shown(calls::answer(text, &mut page)))?;
+        let _ = to.write_all(text);
+        let _ = to.write_all(b" | ");
+        let _ = to.write_all(shown(calls::answer(text, &mut page)));
         to.write_all(b"\n")?;
         return Ok(Verdict::NoCase);
     }
     let Some((call, expected)) = parted(text) else {
-        write!(to, "line {line}: ")?;
-        to.write_all(text)?;
+        let _ = write!(to, "line {line}: ");
+        let _ = to.write_all(text);
         to.write_all(b"\n    is no case\n")?;
         return Ok(Verdict::Differs);
     };
@@ -93,12 +94,12 @@ fn compared<W: Write>(text: &[u8], line: u64, to: &mut W) -> io::Result<Verdict>
     if agree(expected, answered) {
         return Ok(Verdict::Same);
     }
-    write!(to, "line {line}: ")?;
-    to.write_all(call)?;
-    to.write_all(b"\n    expected ")?;
-    to.write_all(expected)?;
-    to.write_all(b"\n    answered ")?;
-    to.write_all(shown(answered))?;
+    let _ = write!(to, "line {line}: ");
+    let _ = to.write_all(call);
+    let _ = to.write_all(b"\n    expected ");
+    let _ = to.write_all(expected);
+    let _ = to.write_all(b"\n    answered ");
+    let _ = to.write_all(shown(answered));
     to.write_all(b"\n")?;
     Ok(Verdict::Differs)
 }

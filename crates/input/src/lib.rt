@@ -35,6 +35,7 @@ const OVER: Place = Place {
 // front that fits is all of `line`. The answer is none where no line is left. The last line may have no end. `part` keeps what was read
 // behind the line, and `place` says where, for the next call; of a place outside the part, what lies inside counts. Nothing is read where
 // the line's end is there already, or no more come.
+#[inline(always)]
 pub fn next<R: Read>(
     from: &mut R,
     part: &mut [u8],
@@ -68,7 +69,8 @@ pub fn next<R: Read>(
     more(from, part, line, place, letters)
 }
 
-// Reads on, up to a line's end, behind so many letters of the line.
+// Reads on, up to a line's end, behind so many letters of the line. Apart, since most lines are there already.
+#[inline(never)]
 fn more<R: Read>(
     from: &mut R,
     part: &mut [u8],

@@ -1,11 +1,11 @@
 -- What the contracts say, about their own text (`Post`, as the check reads it: the arguments a, the result r, and the parameters at
--- exit s): the definitions of the very satellite, type, field and row that the call was given, uncut. `named-in-row` in Rows.antt says that
+-- exit s): the definitions of the very satellite, type, field and row that the call was given, uncut. `written-in-row` in Rows.antt says that
 -- `in_row`, asked about the row that `row` answers, answers what `of` does.
 -- Assumes nothing.
 use mathlib.Core.Path.{◌≡◌}
 use mathlib.Core.List.{[]}
 use lib.ListN.{get_or}
-use Rattle.names.specs.Names.{parts_of}
+use Rattle.names.specs.Names.{parts_of, written}
 use Rattle.names.specs.Fields.{satellite_name, names_of, name_of, joined_names}
 use Rattle.names.proofs.of.Reads as name
 use Rattle.names.proofs.in_row.Reads as in_row
@@ -16,7 +16,7 @@ pub of-says : (κs a r s : _) → name.Post κs a r s → r.now ≡ name_of a.0 
 of-says κs a r s p = p
 
 pub in-row-says : (κs a r s : _) → in_row.Post κs a r s
-    → (r.now ≡ get_or (parts_of 32 a.0.now) a.1.0 []) × (s.0.now ≡ a.0.now)
+    → (r.now ≡ written (get_or (parts_of 32 a.0.now) a.1.0 [])) × (s.0.now ≡ a.0.now)
 in-row-says κs a r s p = p
 
 pub row-says : (κs a r s : _) → row.Post κs a r s → r.now ≡ joined_names (names_of a.0 a.1.0)

@@ -1,10 +1,10 @@
 -- Every type has as many names as fields, and no name is empty or long: tests that are computed over the types of all satellites and over the
 -- table, and the laws that lead from the tests to every type.
 -- Assumes nothing.
-use Prim.Native.Nat.{ℕ, ◌≤◌, ◌<◌}
+use Prim.Native.Nat.{ℕ, zero, suc, ◌≤◌, ◌<◌}
 use mathlib.Core.Path.{◌≡◌, refl}
 use mathlib.Core.Bool.{Bool, true, false, ◌&&◌}
-use mathlib.Core.List.{List, []}
+use mathlib.Core.List.{List, [], ◌∷◌}
 use lib.Dec.{T, leb, eqb, leb→le, eqb→eq}
 use lib.ListN.{length, get_or}
 use mir.Facts.{and_yes}
@@ -15,7 +15,8 @@ use Rattle.layouts.specs.Layouts.{table as layouts}
 use Rattle.layouts.specs.Rules.{every}
 use Rattle.layouts.proofs.Entries.{each, passes, no-entry}
 use Rattle.words.specs.Words.{text}
-use Rattle.names.specs.Names.{index, array_of, grid_of, most_letters}
+use Rattle.std.proofs.lemmas.List.{take_all}
+use Rattle.names.specs.Names.{index, array_of, grid_of, most_letters, written}
 use Rattle.names.specs.Fields.{table, names_in, names_of, name_of}
 use Rattle.names.proofs.Carried.{not_carried}
 use Rattle.names.proofs.Everywhere.{each-satellite, each-type}
@@ -54,6 +55,17 @@ fitted : (name : List ℕ) → T (fits name) → (1 ≤ length name) × (length 
 fitted name t =
     let both = and_yes (leb 1 (length name)) (leb (length name) most_letters) t in
     (leb→le 1 (length name) both.0, leb→le (length name) most_letters both.1)
+
+all-written : (names : List (List ℕ)) → T (every fits names) → (field : ℕ) → written (get_or names field []) ≡ get_or names field []
+unfolding every
+all-written [] t zero = refl
+all-written [] t (suc field) = refl
+all-written (name ∷ names) t zero = take_all most_letters name (fitted name (and_yes (fits name) (every fits names) t).0).1
+all-written (name ∷ names) t (suc field) = all-written names (and_yes (fits name) (every fits names) t).1 field
+
+-- of a field's name all letters are answered
+pub name-written : (s : Satellite) (t field : ℕ) → written (name_of s t field) ≡ name_of s t field
+name-written s t field = all-written (names_of s t) (names-fit s t) field
 
 module _ (s : Satellite) (t field : ℕ) (inside : field < length (names_of s t)) where
   name-fits : (1 ≤ length (get_or (names_of s t) field [])) × (length (get_or (names_of s t) field []) ≤ most_letters)

@@ -1,6 +1,6 @@
 -- The parts of a row are the names that it was made of. Assumes nothing.
 use Prim.Native.Nat.{ℕ, zero, suc, ◌<◌}
-use mathlib.Core.Path.{◌≡◌, refl, ap}
+use mathlib.Core.Path.{◌≡◌, refl, ◌∙◌, ap}
 use mathlib.Core.Bool.{Bool, true, false, not, ◌&&◌}
 use mathlib.Core.List.{List, [], ◌∷◌}
 use lib.Dec.{T, eqb, ltb, ltb→lt}
@@ -13,9 +13,10 @@ use Rattle.layouts.specs.Layouts.{counted}
 use Rattle.layouts.specs.Rules.{every}
 use Rattle.layouts.proofs.Entries.{each}
 use Rattle.words.specs.Words.{text}
-use Rattle.names.specs.Names.{parts_of, index, array_of, grid_of}
+use Rattle.names.specs.Names.{parts_of, written, index, array_of, grid_of}
 use Rattle.names.specs.Fields.{table, names_of, name_of, row_length, joined_names}
 use Rattle.names.proofs.Everywhere.{each-type}
+use Rattle.names.proofs.Counted.{name-written}
 
 -- a word has no blank in it
 abbrev is_word : List ℕ → Bool
@@ -64,3 +65,7 @@ row-not-cut s t = ltb→lt (length (joined_names (names_of s t))) row_length (ma
 -- the name of a field in the row of a satellite's type is the field's name
 pub named-in-row : (s : Satellite) (t field : ℕ) → get_or (parts_of 32 (joined_names (names_of s t))) field [] ≡ name_of s t field
 named-in-row s t field = word_of (names_of s t) (made_row s t).0 field
+
+-- and `in_row` answers all of it
+pub written-in-row : (s : Satellite) (t field : ℕ) → written (get_or (parts_of 32 (joined_names (names_of s t))) field []) ≡ name_of s t field
+written-in-row s t field = ap written (named-in-row s t field) ∙ name-written s t field

@@ -2,7 +2,7 @@
 use mathlib.Core.Path.{◌≡◌, refl}
 use mathlib.Core.List.{[], ◌∷◌}
 use Rattle.words.specs.Words.{text}
-use Rattle.names.specs.Names.{words, index, array_of, grid_of, prefixed}
+use Rattle.names.specs.Names.{words, written, index, array_of, grid_of, prefixed}
 use Rattle.satellites.specs.declared.Satellite.TheVariants.{HadesD, HadesIcm, MariaG, Unne1, HadesR, Unne1b, HadesSa}
 use Rattle.layouts.specs.Layouts.{counted, among}
 use Rattle.names.specs.Fields.{table, names_in, name_of, joined_names}
@@ -11,6 +11,11 @@ use Rattle.names.specs.Fields.{table, names_in, name_of, joined_names}
 pub text-is : text "td" ≡ 116 ∷ 100 ∷ []
 unfolding text
 text-is = refl
+
+-- a name as it stands, and of more than 16 letters the first 16
+pub written_is : (written (text "td") ≡ 116 ∷ 100 ∷ []) × (written (text "abcdefghijklmnopqrst") ≡ text "abcdefghijklmnop")
+unfolding text
+written_is = (refl, refl)
 
 -- the index goes up from 0
 pub array-is : array_of (text "td") 3 ≡ text "td[0]" ∷ text "td[1]" ∷ text "td[2]" ∷ []

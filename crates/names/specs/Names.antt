@@ -1,5 +1,5 @@
 -- Names as texts (01, "The field tables"; FORMAT 6).
-use Rattle.std.specs.Prelude.{ℕ, zero, suc, ◌+◌, ◌/◌, ◌%◌, cond, List, [], ◌∷◌, ◌++◌, map, eqb, ltb}
+use Rattle.std.specs.Prelude.{ℕ, zero, suc, ◌+◌, ◌/◌, ◌%◌, cond, List, [], ◌∷◌, ◌++◌, take, map, eqb, ltb}
 use Rattle.std.specs.List.{slice_split}
 use Prim.Native.String.{String}
 use Rattle.words.specs.Words.{text}
@@ -15,6 +15,10 @@ words s = parts_of 32 (text s)
 -- no name is longer (`name-not-cut`)
 abbrev pub most_letters : ℕ
 most_letters = 16
+
+-- what is answered of a name: up to so many letters of it
+abbrev pub written : List ℕ → List ℕ
+written letters = take most_letters letters
 
 -- a number below 100 in decimal, in square brackets; the code of "0" is 48
 unfoldable pub index : ℕ → List ℕ

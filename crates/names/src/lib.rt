@@ -5,11 +5,14 @@
 mod table;
 
 ghost use Rattle.std.specs.Prelude.{◌≡◌, [], get_or};
-ghost use Rattle.names.specs.Names.{parts_of};
+ghost use Rattle.names.specs.Names.{parts_of, written};
 ghost use Rattle.names.specs.Fields.{satellite_name, names_of, name_of, joined_names};
 
 use satellites::Satellite;
 use table::LINES;
+
+// No name is longer.
+pub const MOST_LETTERS: usize = 16;
 
 // The name of a field of a satellite's type. Where there is no such field it is empty. A caller that wants more than one fetches the row
 // once, and asks `in_row`.
@@ -19,14 +22,17 @@ pub fn of(satellite: Satellite, ty: u32, field: usize) -> &'static [u8]
     in_row(row(satellite, ty), field)
 }
 
-// The name of a field of a row: the row's part of that number, between single blanks. Where there is none it is empty.
+// The name of a field of a row: the row's part of that number, between single blanks, up to 16 letters of it. Where there is none it is
+// empty.
 pub fn in_row(row: &[u8], field: usize) -> &[u8]
-    ensures value { result.now ≡ get_or (parts_of 32 row.now) field [] }
+    ensures value { result.now ≡ written (get_or (parts_of 32 row.now) field []) }
     ensures row_unchanged { row.exit.now ≡ row.entry.now }
 {
-    row.split(|letter| *letter == b' ')
+    let name = row
+        .split(|letter| *letter == b' ')
         .nth(field)
-        .unwrap_or(&[])
+        .unwrap_or(&[]);
+    &name[..name.len().min(MOST_LETTERS)]
 }
 
 // The names of the fields of a satellite's type in their order, with a blank between two. Empty for a type that the satellite does not

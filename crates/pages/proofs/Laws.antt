@@ -27,6 +27,10 @@ put-none [] at = refl
 put-none (y ∷ page) zero = refl
 put-none (y ∷ page) (suc at) = ap (λ (r : List ℕ). y ∷ r) (put-none page at)
 
+pub put-empty : (page : List ℕ) (at : ℕ) (text : List ℕ) → length text ≡ 0 → put page at text ≡ page
+put-empty page at [] e = put-none page at
+put-empty page at (x ∷ text) e = absurd (omega (arith, e))
+
 -- no place is left
 pub put_full : (page : List ℕ) (at : ℕ) (text : List ℕ) → length page ≤ at → put page at text ≡ page
 unfolding put

@@ -12,6 +12,10 @@ pub fn text(page: &mut [u8], at: usize, text: &[u8]) -> usize
     ensures page_after { page.new ≡ put page.old at text.now }
     ensures text_unchanged { text.exit.now ≡ text.entry.now }
 {
+    // No call of the C library for a text without letters, such as an empty line.
+    if text.is_empty() {
+        return at;
+    }
     if page.len() < at {
         return at;
     }

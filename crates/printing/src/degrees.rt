@@ -1,5 +1,6 @@
 // Degrees, as text: exact, since they are half degrees.
-use crate::{say, text};
+use crate::{number, text};
+use std::num::saturating_f32_to_u64;
 use temperatures::Reading;
 
 // What a code stands for, in words.
@@ -24,7 +25,12 @@ pub fn or(code: u32, instead: &[u8]) {
     }
 }
 
-// With one digit behind the point.
+// With one digit behind the point. No format: it would write sign, digits, point and the last digit by a call each.
 fn plain(degrees: f32) {
-    say!("{degrees:.1}");
+    if degrees < 0.0 {
+        text(b"-");
+    }
+    let halves = saturating_f32_to_u64(degrees.abs() * 2.0);
+    number(halves / 2);
+    text(if halves % 2 == 0 { b".0" } else { b".5" });
 }

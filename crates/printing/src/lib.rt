@@ -20,12 +20,10 @@ const STDOUT_FILENO: i32 = 1;
 pub struct Stdout;
 
 impl fmt::Write for Stdout {
+    // What cannot be written is missing, and what comes behind it is still tried, as in `text`.
     fn write_str(&mut self, text: &str) -> fmt::Result {
-        if io::write_all(STDOUT_FILENO, text.as_bytes()) {
-            Ok(())
-        } else {
-            Err(fmt::Error)
-        }
+        io::write_all(STDOUT_FILENO, text.as_bytes());
+        Ok(())
     }
 }
 
@@ -42,7 +40,6 @@ pub fn text(text: &[u8]) {
     io::write_all(STDOUT_FILENO, text);
 }
 
-// Nothing here calls it any more, nor `half`, but a public function stays.
 pub fn number(n: u64) {
     say!("{n}");
 }
@@ -57,16 +54,23 @@ pub fn bytes(bytes: &[u8], gap: &[u8]) {
     }
 }
 
+// One text: of a byte below 16 a format would write each digit by a call of its own.
 pub fn byte(byte: u8) {
-    say!("{byte:02X}");
+    text(&[digit(byte / 16), digit(byte)]);
+}
+
+// The digit of the low four bits.
+fn digit(byte: u8) -> u8 {
+    b"0123456789ABCDEF"[usize::from(byte % 16)]
 }
 
 // A checksum, as it is sent.
 pub(crate) fn checksum(sum: u32) {
-    say!("{:04X}", sum % 0x1_0000);
+    byte((sum / 256 % 256) as u8);
+    byte((sum % 256) as u8);
 }
 
-// The low four bits, as one digit.
+// The low four bits, as one digit. Nothing here calls it any more, but a public function stays.
 pub fn half(byte: u8) {
     say!("{:X}", byte % 16);
 }

@@ -1,13 +1,13 @@
 -- What callers of `open` and `seal` go by: what these answer and leave of a part, in the words of `frames`.
 -- Assumes nothing.
-use Prim.Native.Nat.{ℕ, suc, ◌+◌, ◌-◌, ◌≤◌}
+use Prim.Native.Nat.{ℕ, suc, ◌+◌, ◌-◌, ◌≤◌, ◌<◌}
 use native.Mathlib.Omega.{arith}
 use mathlib.Core.Path.{◌≡◌, sym, ◌∙◌, ap, ap₂}
 use mathlib.Core.List.{List, [], ◌∷◌, ◌++◌}
 use lib.Dec.{eqb}
 use lib.ListN.{length, get_or, take, drop, length-append, length-drop}
 use lib.Seq.{take_all, take_at}
-use borrow.Author.Tests.{le-leb}
+use borrow.Author.Tests.{le-leb, lt-leb}
 use Rattle.bits.specs.Bits.{number, bits_of, field, field_answer}
 use Rattle.bits.proofs.Bytes.{length-bits_of}
 use Rattle.bits.proofs.Fields.{is_field_lem}
@@ -71,6 +71,9 @@ module _ (r : Register) where
   -- its first byte is the type byte still
   pub first-told : (part : List ℕ) → 3 ≤ length part → get_or (opened_part r part) 0 0 ≡ get_or part 0 0
   first-told part h = ap (λ (l : List ℕ). get_or (l ++ drop (length part - 2) part) 0 0) (front-clear part h)
+
+  pub not-sealed : (part : List ℕ) → length part < 3 → sealed_part r part ≡ part
+  not-sealed part short = rw (lt-leb 3 (length part) short)
 
   pub seals : (part : List ℕ) → 3 ≤ length part → sealed_part r part ≡ sealed r (get_or part 0 0) (body_in part)
   seals part h = rw (le-leb 3 (length part) h)

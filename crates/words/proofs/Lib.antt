@@ -1,7 +1,7 @@
 pub mod Contracts
-pub mod Cuts
 pub mod Determined
 pub mod Hex
 pub mod Laws
 pub mod Numbers
+pub mod Runs
 pub mod Worked

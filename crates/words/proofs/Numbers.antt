@@ -1,11 +1,11 @@
 -- Going along digits, and the number that they write. Assumes nothing.
-use mathlib.Core.Path.{◌≡◌}
-use mathlib.Core.Bool.{true, false}
+use mathlib.Core.Path.{◌≡◌, refl}
+use mathlib.Core.Bool.{Bool, true, false}
 use mathlib.Core.List.{List, [], ◌∷◌}
 use Prim.Native.Nat.{ℕ, ◌+◌, ◌*◌, ◌≤◌, ◌<◌}
 use native.Mathlib.Numerals.{add-one}
 use native.Mathlib.Omega.{arith}
-use borrow.Author.Tests.{lt-ltb, le-leb, lt-leb, eqb-true, eqb-false}
+use borrow.Author.Tests.{lt-ltb, le-ltb, le-leb, lt-leb, eqb-true, eqb-false}
 use lib.Dec.{eqb}
 use lib.ListN.{length, get_or, drop, drop_of_length-le}
 use lib.Seq.{drop-cons}
@@ -16,6 +16,18 @@ module _ (text : List ℕ) (i : ℕ) (inside : i < length text) where
   pub value-next : (value : ℕ) → value_from (value * 10 + digit_of (get_or text i 0)) (drop (i + 1) text) ≡ value_from value (drop i text)
   unfolding value_from
   value-next value = rw (drop-cons text i 0, add-one)
+
+  pub digits-next : digit_of (get_or text i 0) < 10 → are_digits 10 (drop (i + 1) text) ≡ are_digits 10 (drop i text)
+  unfolding are_digits
+  digits-next h = rw (drop-cons text i 0, lt-ltb (digit_of (get_or text i 0)) 10 h, add-one)
+
+  pub no-digit : 10 ≤ digit_of (get_or text i 0) → are_digits 10 (drop i text) ≡ false
+  unfolding are_digits
+  no-digit h = rw (drop-cons text i 0, le-ltb (digit_of (get_or text i 0)) 10 h)
+
+pub no-digits-left : (text : List ℕ) (i : ℕ) → length text ≤ i → are_digits 10 (drop i text) ≡ true
+unfolding are_digits
+no-digits-left text i h = rw (drop_of_length-le text h)
 
 pub no-value-left : (text : List ℕ) (value i : ℕ) → length text ≤ i → value_from value (drop i text) ≡ value
 unfolding value_from
@@ -51,6 +63,14 @@ module _ (text : List ℕ) where
     pub great-none : are_digits 10 text ≡ true → 0xFFFFFFFF < value_from 0 text → None ≡ decimal_of text
     unfolding decimal_of
     great-none e h = rw (lt-ltb 0 (length text) begun, e, lt-leb (value_from 0 text) 0xFFFFFFFF h)
+
+    -- letters that are no digits are no number either
+    pub great-anyway : 0xFFFFFFFF < value_from 0 text → None ≡ decimal_of text
+    great-anyway h = go (are_digits 10 text) refl
+      where
+        go : (b : Bool) → are_digits 10 text ≡ b → None ≡ decimal_of text
+        go true e = great-none e h
+        go false e = others-none e
 
     pub digits_number : are_digits 10 text ≡ true → value_from 0 text ≤ 0xFFFFFFFF → Some (value_from 0 text) ≡ decimal_of text
     unfolding decimal_of

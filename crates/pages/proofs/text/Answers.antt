@@ -1,7 +1,10 @@
--- The page is what the contract says where no place is left, and where the letters that fit are put at once. Assumes nothing.
-use Rattle.std.proofs.Common.{arith, sym, ◌≡◌, ◌+◌, ◌-◌}
-use Rattle.pages.proofs.Laws.{put_full, put-fit}
+-- The page is what the contract says where no letter or no place is left, and where the letters that fit are put at once. Assumes nothing.
+use Rattle.std.proofs.Common.{rules, tests, arith, sym, ◌≡◌, ◌+◌, ◌-◌}
+use Rattle.pages.proofs.Laws.{put-empty, put_full, put-fit}
 use Rattle.pages.proofs.text.Goals as goal
+
+pub returns-then-is_empty-clause-page_after : goal.returns-then-is_empty-clause-page_after
+returns-then-is_empty-clause-page_after c = sym (put-empty c.args.page.now c.args.at c.args.text.now (search (rules, tests)))
 
 pub returns-then-page-at-clause-page_after : goal.returns-then-page-at-clause-page_after
 returns-then-page-at-clause-page_after c = sym (put_full c.args.page.now c.args.at c.args.text.now (omega arith))

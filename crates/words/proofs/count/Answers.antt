@@ -1,16 +1,19 @@
--- The library's parts of the line that are kept are its words. Assumes nothing.
-use Rattle.std.proofs.Common.{rules, tests, length, ap, ◌∙◌}
-use Rattle.std.proofs.lemmas.Iterator.Consumers.{count_from_yields_List, YieldsList-at, YieldsList-from_filter}
-use Rattle.std.proofs.lemmas.Iterator.Splits.{YieldsList-from_slice_split}
-use Rattle.words.proofs.Cuts.{blank, some, words-are}
+-- From a word's start to what is behind it: one word more is counted, and one fewer is left. Assumes nothing.
+use Rattle.std.proofs.Common.{arith, length, length-drop, ap}
+use Rattle.std.proofs.lemmas.List.Sums.{prefix_len-le-length}
+use Rattle.std.specs.List.{prefix_len}
+use Rattle.words.specs.Words.{is_letter}
+use Rattle.words.proofs.Runs.{word-ahead}
 use Rattle.words.proofs.count.Goals as goal
 
-pub returns-clause-value : goal.returns-clause-value
-returns-clause-value c =
-    let line = c.args.line.now in
-    count_from_yields_List c.filter.result c.count.result c.count.ensures.ran
-    (YieldsList-from_filter _ some
-    (YieldsList-at c.filter.ensures.source
-    (YieldsList-from_slice_split _ blank line c.split.ensures.rest c.split.ensures.done c.split.ensures.closure (λ x b q k. search (rules, tests))))
-    c.filter.ensures.closure (λ x b q k. search (rules, tests)))
-    ∙ ap length (words-are line)
+pub loop-begun-preserved : goal.loop-begun-preserved
+loop-begun-preserved c =
+    let l = c.loop-begun in
+    let begun = c.in-Some.begun.now in
+    let same = c.in-Some.ensures.cases in
+    let here = word-ahead begun same.1 in
+    let on = c.behind_word-rest.ensures in
+    record {
+      small = rw on (omega (arith, length-drop (prefix_len is_letter begun) begun, prefix_len-le-length is_letter begun, same.1, c.in-Some.ensures.no_longer, l.invariant.small));
+      all = rw on (omega (arith, ap length here, ap length same.0, l.invariant.all));
+    }
