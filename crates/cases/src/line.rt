@@ -3,8 +3,8 @@ ghost use Rattle.std.specs.Prelude.{◌≡◌, true, IsSomeAnd};
 
 use crate::page::Page;
 use crate::{call, calls};
+use std::io;
 use std::io::Write;
-use std::{fmt, io};
 
 // How many cases there were so far, and how many of them differ.
 #[derive(Clone, Copy, Debug, Default, PartialEq, Eq)]
@@ -30,11 +30,13 @@ impl Tally {
             self.differ = self.differ.saturating_add(1);
         }
     }
-}
 
-impl fmt::Display for Tally {
-    fn fmt<W: fmt::Write>(&self, f: &mut fmt::Formatter<W>) -> fmt::Result {
-        write!(f, "{} cases, {} differ", self.cases, self.differ)
+    // The last line may be missing.
+    pub(crate) fn print<W: Write>(&self, to: &mut W) {
+        let _ = write!(to, "{}", self.cases);
+        let _ = to.write_all(b" cases, ");
+        let _ = write!(to, "{}", self.differ);
+        let _ = to.write_all(b" differ\n");
     }
 }
 
@@ -44,9 +46,15 @@ pub(crate) fn too_long<W: Write>(line: u64, to: &mut W) -> io::Result<Verdict> {
 
 // Here and below each part of what is said is tried, whatever became of those ahead: that the last could be written is the answer.
 fn differs<W: Write>(line: u64, what: &[u8], to: &mut W) -> io::Result<Verdict> {
-    let _ = write!(to, "line {line}: ");
+    begin(line, to);
     to.write_all(what)?;
     Ok(Verdict::Differs)
+}
+
+fn begin<W: Write>(line: u64, to: &mut W) {
+    let _ = to.write_all(b"line ");
+    let _ = write!(to, "{line}");
+    let _ = to.write_all(b": ");
 }
 
 pub(crate) fn judged<W: Write>(text: &[u8], line: u64, to: &mut W) -> io::Result<Verdict> {
@@ -85,7 +93,7 @@ fn compared<W: Write>(text: &[u8], line: u64, to: &mut W) -> io::Result<Verdict>
         return Ok(Verdict::NoCase);
     }
     let Some((call, expected)) = parted(text) else {
-        let _ = write!(to, "line {line}: ");
+        begin(line, to);
         let _ = to.write_all(text);
         to.write_all(b"\n    is no case\n")?;
         return Ok(Verdict::Differs);
@@ -94,7 +102,7 @@ fn compared<W: Write>(text: &[u8], line: u64, to: &mut W) -> io::Result<Verdict>
     if agree(expected, answered) {
         return Ok(Verdict::Same);
     }
-    let _ = write!(to, "line {line}: ");
+    begin(line, to);
     let _ = to.write_all(call);
     let _ = to.write_all(b"\n    expected ");
     let _ = to.write_all(expected);

@@ -67,8 +67,7 @@ fn compare<R: Read, W: Write>(from: &mut R, to: &mut W) -> io::Result<()> {
     let mut tally = Tally::default();
     for number in 1..MOST_LINES {
         let Some(found) = input::next(from, &mut part, &mut line, &mut place) else {
-            // The last line may be missing.
-            let _ = write!(to, "{tally}\n");
+            tally.print(to);
             return Ok(());
         };
         let verdict = match found {

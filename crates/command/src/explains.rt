@@ -71,10 +71,11 @@ fn made(satellite: Satellite, frame: &[u8], stop: Option<u32>) {
     for (n, what) in (2..10u32).zip(TESTS) {
         say!("test {n}, {what}: ");
         tests::compared(n, satellite, frame);
+        printing::text(b": ");
         if stop == Some(n) {
-            return printing::text(b": fails\n");
+            return printing::text(b"fails\n");
         }
-        printing::text(b": holds\n");
+        printing::text(b"holds\n");
     }
 }
 
@@ -125,9 +126,13 @@ fn piece(frame: &[u8], from: usize, length: usize) {
 
 // The size byte is the last ahead of the type byte.
 fn size(ahead: Option<&[u8]>) {
+    printing::text(b"size: ");
     match ahead {
-        Some([.., byte]) => say!("size: {byte:02X}, says that {byte} bytes follow\n"),
-        _ => printing::text(b"size: none\n"),
+        Some([.., byte]) => {
+            printing::byte(*byte);
+            say!(", says that {byte} bytes follow\n");
+        }
+        _ => printing::text(b"none\n"),
     }
 }
 
@@ -137,7 +142,9 @@ fn type_byte(satellite: Satellite, frame: &[u8]) {
     };
     let ty = fronts::type_sent(satellite, frame);
     let address = byte % 16;
-    say!("type byte: {byte:02X}, type {ty}, address {address:X}\n");
+    printing::text(b"type byte: ");
+    printing::byte(byte);
+    say!(", type {ty}, address {address:X}\n");
 }
 
 // What the refusal comes of, in words.

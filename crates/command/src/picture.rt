@@ -83,7 +83,12 @@ fn row(place: usize, sent: u8, edited: u8, mask: u8) {
     if mask == 0 {
         return;
     }
-    say!("{place:>5}");
+    printing::text(match place {
+        0..10 => b"    ".as_slice(),
+        10..100 => b"   ".as_slice(),
+        _ => b"  ".as_slice(),
+    });
+    say!("{place}");
     shown(sent, mask, b'0', b'1');
     shown(edited, mask, b'0', b'1');
     shown(sent ^ edited, mask, b'.', b'^');
@@ -95,13 +100,10 @@ const BITS: [u8; 8] = [0x80, 0x40, 0x20, 0x10, 0x08, 0x04, 0x02, 0x01];
 
 // Eight bits, with a blank ahead, by a letter for 0 and one for 1; those of another part as `-`.
 fn shown(byte: u8, mask: u8, zero: u8, one: u8) {
-    let mut text = [b' '; 9];
-    for (letter, bit) in text[1..].iter_mut().zip(BITS) {
-        *letter = match (mask & bit, byte & bit) {
-            (0, _) => b'-',
-            (_, 0) => zero,
-            _ => one,
-        };
-    }
-    printing::text(&text);
+    let [a, b, c, d, e, f, g, h] = BITS.map(|bit| match (mask & bit, byte & bit) {
+        (0, _) => b'-',
+        (_, 0) => zero,
+        _ => one,
+    });
+    printing::text(&[b' ', a, b, c, d, e, f, g, h]);
 }

@@ -30,11 +30,7 @@ pub(crate) struct NoBytes<'l> {
 
 impl Wrong<'_> {
     pub(crate) fn print(self) {
-        if self.is_refusal() {
-            printing::text(b"refused ");
-        } else {
-            printing::text(b"error: ");
-        }
+        printing::text(self.head());
         match self {
             Wrong::Word { what, word, hint } => {
                 printing::text(what);
@@ -43,11 +39,10 @@ impl Wrong<'_> {
                 printing::text(hint);
             }
             Wrong::Missing(word) => {
-                printing::text(b"words are missing: ");
                 printing::word(word);
                 printing::text(b" (help ");
                 printing::word(word);
-                printing::text(b" tells which)");
+                return printing::text(b" tells which)\n");
             }
             Wrong::NoFrame(word) => word.print(),
             Wrong::NoSatellite(number) => reasons::of_number(number),
@@ -59,11 +54,13 @@ impl Wrong<'_> {
         printing::text(b"\n");
     }
 
-    fn is_refusal(self) -> bool {
-        !matches!(
-            self,
-            Wrong::Word { .. } | Wrong::Missing(_) | Wrong::NoFrame(_)
-        )
+    // What the line begins with.
+    fn head(self) -> &'static [u8] {
+        match self {
+            Wrong::Word { .. } | Wrong::NoFrame(_) => b"error: ",
+            Wrong::Missing(_) => b"error: words are missing: ",
+            _ => b"refused ",
+        }
     }
 }
 

@@ -35,6 +35,7 @@ const OVER: Place = Place {
 // front that fits is all of `line`. The answer is none where no line is left. The last line may have no end. `part` keeps what was read
 // behind the line, and `place` says where, for the next call; of a place outside the part, what lies inside counts. Nothing is read where
 // the line's end is there already, or no more come.
+// In place: a call for each line is felt where lines are short.
 #[inline(always)]
 pub fn next<R: Read>(
     from: &mut R,

@@ -27,7 +27,7 @@ pub fn or(code: u32, instead: &[u8]) {
 
 // With one digit behind the point. No format: it would write sign, digits, point and the last digit by a call each.
 fn plain(degrees: f32) {
-    if degrees < 0.0 {
+    if !degrees.is_nan() && degrees.is_sign_negative() {
         text(b"-");
     }
     let halves = saturating_f32_to_u64(degrees.abs() * 2.0);

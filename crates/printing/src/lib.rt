@@ -64,7 +64,7 @@ fn digit(byte: u8) -> u8 {
     b"0123456789ABCDEF"[usize::from(byte % 16)]
 }
 
-// A checksum, as it is sent.
+// A checksum, as it is sent. No format, as in `byte`.
 pub(crate) fn checksum(sum: u32) {
     byte((sum / 256 % 256) as u8);
     byte((sum % 256) as u8);

@@ -1,6 +1,6 @@
 // The tests on a frame (01, "What is refused, and in which order"; FORMAT 7): what each finds, and what it expects. Which of them a frame
 // passes is told by reading, not here. Satellite and frame are two parameters, as in `fronts`.
-use crate::{bytes, say, text, types_carried};
+use crate::{byte, bytes, say, text, types_carried};
 use satellites::Satellite;
 
 // Room enough for every frame.
@@ -38,7 +38,10 @@ fn preamble(satellite: Satellite, frame: &[u8]) {
     for (place, &found) in ahead.enumerate() {
         let expected = sent_at(satellite, place, found);
         if found != expected {
-            return say!("byte {place} is {found:02X}, expected {expected:02X}");
+            say!("byte {place} is ");
+            byte(found);
+            text(b", expected ");
+            return byte(expected);
         }
     }
     say!(
