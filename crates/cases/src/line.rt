@@ -31,7 +31,7 @@ impl Tally {
         }
     }
 
-    // The last line may be missing.
+    // The last line may be missing. Text by text, as in `begin`.
     pub(crate) fn print<W: Write>(&self, to: &mut W) {
         let _ = write!(to, "{}", self.cases);
         let _ = to.write_all(b" cases, ");
@@ -51,6 +51,7 @@ fn differs<W: Write>(line: u64, what: &[u8], to: &mut W) -> io::Result<Verdict> 
     Ok(Verdict::Differs)
 }
 
+// Text by text: a format stops at the first that cannot be written.
 fn begin<W: Write>(line: u64, to: &mut W) {
     let _ = to.write_all(b"line ");
     let _ = write!(to, "{line}");

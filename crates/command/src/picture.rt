@@ -83,6 +83,7 @@ fn row(place: usize, sent: u8, edited: u8, mask: u8) {
     if mask == 0 {
         return;
     }
+    // Not by a format: blanks and number stay two texts, of which each is written as far as it can be.
     printing::text(match place {
         0..10 => b"    ".as_slice(),
         10..100 => b"   ".as_slice(),

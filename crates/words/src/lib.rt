@@ -21,7 +21,7 @@ pub enum PairsError {
 
 // Word number n of a line, counted from 0; where there are not so many, an empty one. Blanks part words: any number of bytes up to
 // 32, ahead of the first and behind the last too. Word by word, here and in `count`: the library's `split` makes an empty part of each
-// blank, and takes three times as long on a line of blanks.
+// blank, which took twice as long on blank lines.
 pub fn word(line: &[u8], n: usize) -> &[u8]
     ensures result_value { result.now ≡ word_of n line.now }
     ensures line_unchanged { line.exit.now ≡ line.entry.now }
