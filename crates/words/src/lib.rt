@@ -84,7 +84,6 @@ fn behind_word(text: &[u8]) -> &[u8]
 }
 
 // Whether each letter is a digit of that base; an empty text has none that is not. A base above 16 takes every letter.
-#[tactic(auto, unfolding(crate::specs::Numbers::are_digits))]
 pub fn are_digits(text: &[u8], base: u8) -> bool
     ensures value { result ≡ are_digits base text.now }
     ensures text_unchanged { text.exit.now ≡ text.entry.now }
