@@ -59,7 +59,7 @@ fn main(rt: HostRuntime) -> ExitCode {
     }
 }
 
-// Stops where what is said of a case cannot be written: whoever reads it has gone.
+// Stops where the end of what is said of a case cannot be written: whoever reads it has gone.
 fn compare<R: Read, W: Write>(from: &mut R, to: &mut W) -> io::Result<()> {
     let mut part = [0; PART];
     let mut line = [0; MOST_LETTERS];

@@ -7,7 +7,7 @@ use Rattle.std.proofs.Common.{Some, None, Ok, Err}
 use Rattle.pages.specs.Places.{index_of, index_after}
 use Rattle.input.specs.declared.Place.{Place}
 use Rattle.input.specs.declared.TooLong.{TooLong}
-use Rattle.input.specs.Lines.{ready, found, next_place}
+use Rattle.input.specs.Lines.{ready, line_of, found, next_place}
 
 abbrev part : List ℕ
 part = 97 ∷ 98 ∷ 10 ∷ 99 ∷ 100 ∷ []
@@ -37,16 +37,17 @@ pub last-lines-are : (map (λ (at : ℕ). found 9 part (place at 5 true)) (3 ∷
 unfolding index_of index_after
 last-lines-are = (refl, refl)
 
+-- its letters, and the room that it needs: more than enough, just enough, and too little
+pub last-letters-are : (line_of part (place 3 5 true) ≡ 99 ∷ 100 ∷ [])
+    × (map (λ (n : ℕ). found n part (place 3 5 true)) (9 ∷ 2 ∷ 1 ∷ 0 ∷ []) ≡ Some (Ok 2) ∷ Some (Ok 2) ∷ Some (Err too_long) ∷ Some (Err too_long) ∷ [])
+unfolding index_of index_after
+last-letters-are = (refl, refl)
+
 -- the next line begins behind the end of this one; behind the last, no byte is left and no more come
 pub next-places-are : map (λ (at : ℕ). next_place part (place at 9 true)) (0 ∷ 2 ∷ 3 ∷ 4 ∷ 5 ∷ 9 ∷ [])
     ≡ place 3 5 true ∷ place 3 5 true ∷ place 0 0 true ∷ place 0 0 true ∷ place 0 0 true ∷ place 0 0 true ∷ []
 unfolding index_of index_after
 next-places-are = refl
-
--- as long as more may come
-pub next-place-is : next_place part (place 0 9 false) ≡ place 3 5 false
-unfolding index_of index_after
-next-place-is = refl
 
 -- where more may come, a line without its end waits for it
 pub waits : map (λ (at : ℕ). ready part (place at 5 false)) (0 ∷ 2 ∷ 3 ∷ 5 ∷ []) ≡ true ∷ true ∷ false ∷ false ∷ []
